@@ -9,8 +9,7 @@ and-false false = refl
 
 -- a row without a symbol leaves not all held
 all_held-absent : (c : Challenge) (held : ℕ → Option (List ℕ)) (k : ℕ) →
-    held_symbol c.size held (picked_row c.seed c.rows k) ≡ None →
-    all_held c held (suc k) ≡ false
+    held_symbol c.size held (picked_row c.seed c.rows k) ≡ None → all_held c held (suc k) ≡ false
 unfolding all_held
 all_held-absent c held k e =
     ap (λ (s : Option ℕ). all_held c held k && is_some s) e ∙ and-false (all_held c held k)

@@ -73,8 +73,7 @@ sum_over-add c f g (suc k) =
 
 -- where something stands in every row, all picked rows have it
 all_held-each : (c : Challenge) (held : ℕ → Option (List ℕ)) (f : ℕ → ℕ) (k : ℕ) →
-    ((row : ℕ) → held_symbol c.size held row ≡ Some (f row)) →
-    all_held c held k ≡ true
+    ((row : ℕ) → held_symbol c.size held row ≡ Some (f row)) → all_held c held k ≡ true
 unfolding all_held
 all_held-each c held f zero each = refl
 all_held-each c held f (suc k) each =
@@ -82,8 +81,7 @@ all_held-each c held f (suc k) each =
 
 -- the honest answer of blocks with these symbols in all rows
 honest_answer-each : (c : Challenge) (held : ℕ → Option (List ℕ)) (f : ℕ → ℕ) →
-    ((row : ℕ) → held_symbol c.size held row ≡ Some (f row)) →
-    honest_answer c held ≡ Some (combined c f)
+    ((row : ℕ) → held_symbol c.size held row ≡ Some (f row)) → honest_answer c held ≡ Some (combined c f)
 honest_answer-each c held f each =
     ap (λ (b : Bool). if b then Some (combined c (λ row. unwrap_or (held_symbol c.size held row) 0))
     else None) (all_held-each c held f c.picks each)
@@ -108,16 +106,14 @@ module _ (o : Object) (bytes : List ℕ) where
 right_symbol-primary : (o : Object) (bytes : List ℕ) (j row : ℕ) → is_primary o j ≡ true →
     right_symbol o bytes j row ≡ value (row_at o bytes row) (point o j)
 unfolding right_symbol
-right_symbol-primary o bytes j row is =
-    ap (λ b. if b then value (row_at o bytes row) (point o j)
-    else nim_add (value (row_at o bytes row) (point o j)) (mask o.master o.id j row)) is
+right_symbol-primary o bytes j row is = ap (λ b. if b then value (row_at o bytes row) (point o j) else nim_add
+    (value (row_at o bytes row) (point o j)) (mask o.master o.id j row)) is
 
 right_symbol-secondary : (o : Object) (bytes : List ℕ) (j row : ℕ) → is_primary o j ≡ false →
     right_symbol o bytes j row ≡ nim_add (value (row_at o bytes row) (point o j)) (mask o.master o.id j row)
 unfolding right_symbol
-right_symbol-secondary o bytes j row is =
-    ap (λ b. if b then value (row_at o bytes row) (point o j)
-    else nim_add (value (row_at o bytes row) (point o j)) (mask o.master o.id j row)) is
+right_symbol-secondary o bytes j row is = ap (λ b. if b then value (row_at o bytes row) (point o j) else
+    nim_add (value (row_at o bytes row) (point o j)) (mask o.master o.id j row)) is
 
 -- the row at a place of a stripe, by its number
 row-split : (o : Object) (row : ℕ) → 1 ≤ o.profile.size →
@@ -186,11 +182,9 @@ value-right_row o bytes c x = value-sum_rows c (row_at o bytes) x c.picks
 
 -- the right answer is the combination of the symbols
 right_answer-is : (o : Object) (bytes : List ℕ) (c : Challenge) (j : ℕ) → 1 ≤ c.size →
-    c.size ≡ o.profile.size →
-    right_answer o bytes j c ≡ Some (combined c (right_symbol o bytes j))
-right_answer-is o bytes c j some e =
-    honest_answer-each c (λ stripe. Some (columns o bytes j stripe)) (right_symbol o bytes j)
-    (λ row. ap (λ n. held_symbol n (λ stripe. Some (columns o bytes j stripe)) row) e
+    c.size ≡ o.profile.size → right_answer o bytes j c ≡ Some (combined c (right_symbol o bytes j))
+right_answer-is o bytes c j some e = honest_answer-each c (λ stripe. Some (columns o bytes j stripe))
+    (right_symbol o bytes j) (λ row. ap (λ n. held_symbol n (λ stripe. Some (columns o bytes j stripe)) row) e
     ∙ right-held o bytes j row (omega (arith, some, e)))
 
 -- a sum taken off again
@@ -203,17 +197,15 @@ right-values o bytes c j some e = go (is_primary o j) refl
   where
     go : (b : Bool) → is_primary o j ≡ b → bare_answer o c j (right_answer o bytes j c)
         ≡ Some (value (right_row o bytes c) (point o j))
-    go true is =
-        ap (λ b. if b then right_answer o bytes j c else option_map (λ x. nim_add x (mask_sum o j c))
+    go true is = ap (λ b. if b then right_answer o bytes j c else option_map (λ x. nim_add x (mask_sum o j c))
         (right_answer o bytes j c)) is
         ∙ right_answer-is o bytes c j some e
         ∙ ap Some (sum_over-same c (right_symbol o bytes j)
         (λ row. value (row_at o bytes row) (point o j)) c.picks
         (λ row. right_symbol-primary o bytes j row is)
         ∙ sym (value-right_row o bytes c (point o j)))
-    go false is =
-        ap (λ b. if b then right_answer o bytes j c else option_map (λ x. nim_add x (mask_sum o j c))
-        (right_answer o bytes j c)) is
+    go false is = ap (λ b. if b then right_answer o bytes j c else option_map
+        (λ x. nim_add x (mask_sum o j c)) (right_answer o bytes j c)) is
         ∙ ap (option_map (λ x. nim_add x (mask_sum o j c))) (right_answer-is o bytes c j some e)
         ∙ ap Some (ap (λ x. nim_add x (mask_sum o j c))
         (sum_over-same c (right_symbol o bytes j)

@@ -7,8 +7,7 @@ use Rattle.algebra_laws.proofs.Steps.{is_seen-none}
 pub common : {A : Type 0} → FieldOf A → List A → List A → List A → List (Option A) → List A
 common F p q [] seen = []
 common F p q (x ∷ xs) [] = []
-common F p q (x ∷ xs) (s ∷ ss) =
-    cond (is_seen F (value F p x) s)
+common F p q (x ∷ xs) (s ∷ ss) = cond (is_seen F (value F p x) s)
     (cond (is_seen F (value F q x) s) (x ∷ common F p q xs ss) (common F p q xs ss)) (common F p q xs ss)
 
 module _ {A : Type 0} (F : FieldOf A) (laws : IsField F) where
@@ -86,9 +85,8 @@ module _ {A : Type 0} (F : FieldOf A) (laws : IsField F) where
   unfolding common
   meet_common p q [] ss = tt
   meet_common p q (x ∷ xs) [] = tt
-  meet_common p q (x ∷ xs) (s ∷ ss) =
-      go (is_seen F (value F p x) s) (is_seen F (value F q x) s) (seen_same (value F p x) (value F q x) s)
-      (meet_common p q xs ss)
+  meet_common p q (x ∷ xs) (s ∷ ss) = go (is_seen F (value F p x) s) (is_seen F (value F q x) s)
+      (seen_same (value F p x) (value F q x) s) (meet_common p q xs ss)
     where
       go : (b c : Bool) → (b ≡ true → c ≡ true → value F p x ≡ value F q x) →
           Each (λ x. value F p x ≡ value F q x) (common F p q xs ss) →
@@ -100,11 +98,9 @@ module _ {A : Type 0} (F : FieldOf A) (laws : IsField F) where
 
   -- two polynomials of at most k coefficients that agree often enough are one
   pub unique : (p q : List A) (xs : List A) (ss : List (Option A)) (k : ℕ) → Apart xs → length p ≤ k →
-      length q ≤ k →
-      present ss + k ≤ agree F p xs ss + agree F q xs ss → Each (λ a. a ≡ F.zero) (plus F p q)
-  unique p q xs ss k d hp hq enough =
-      plus_zero F laws (common F p q xs ss) p q (Apart-common p q xs ss d) (meet_common p q xs ss)
-      (omega (arith, count_common p q xs ss)) (omega (arith, count_common p q xs ss))
+      length q ≤ k → present ss + k ≤ agree F p xs ss + agree F q xs ss → Each (λ a. a ≡ F.zero) (plus F p q)
+  unique p q xs ss k d hp hq enough = plus_zero F laws (common F p q xs ss) p q (Apart-common p q xs ss d)
+      (meet_common p q xs ss) (omega (arith, count_common p q xs ss)) (omega (arith, count_common p q xs ss))
 
 module _ {A : Type 0} (F : FieldOf A) where
   -- polynomials of one value everywhere agree at the same points

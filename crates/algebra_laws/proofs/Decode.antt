@@ -66,10 +66,9 @@ module _ {A : Type 0} (F : FieldOf A) (laws : IsField F) (endless : IsEndless A)
       ((q : List A) → ((x : A) → value F r x ≡ value F f x ⊗ value F q x) → (x : A) →
       value F q x ≡ value F p x)
   decode_exact {r} {f} points values keep fix below one even d row wide narrow some p is = (
-    (λ x. same_values F laws r (times F f p)
-        (row_is_product F laws r f p points values below (keep - 1) fix d key.row key.short
-        (let a = key.room in omega arith) (let a = is.short in omega arith) (omega arith) narrow is.near)
-        x ∙
+    (λ x. same_values F laws r (times F f p) (row_is_product F laws r f p points values below (keep - 1) fix d
+        key.row key.short (let a = key.room in omega arith) (let a = is.short in omega arith) (omega arith)
+        narrow is.near) x ∙
         value-times F laws f p x),
     (λ q hq x. quotient_is F laws endless points values below (keep - 1) fix r f p q one d (omega arith) key
         (let a = is.short in omega arith) (omega arith) narrow is.near hq x),

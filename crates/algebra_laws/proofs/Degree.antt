@@ -61,8 +61,7 @@ module _ {A : Type 0} (F : FieldOf A) (laws : IsField F) where
 
   -- a product of two polynomials that are not zero is no shorter than its first factor
   pub product_not_shorter : (f w r : List A) → 0 < length f → 0 < length w → get_or f (length f - 1) 𝟘 ≢ 𝟘 →
-      get_or w (length w - 1) 𝟘 ≢ 𝟘 →
-      r ≡ trim F (times F f w) → length r < length f → ⊥
+      get_or w (length w - 1) 𝟘 ≢ 𝟘 → r ≡ trim F (times F f w) → length r < length f → ⊥
   product_not_shorter f w r some_f some_w last_f last_w is less =
       last_w (factor_zero F laws (get_or f m 𝟘) (get_or w n 𝟘)
       (sym (get_or-times f w m n (m + n) (omega arith) (omega arith) refl)

@@ -51,8 +51,7 @@ module _ {A : Type 0} (F : FieldOf A) (laws : IsField F) where
   unfolding remainder quotient value
   value-divided d m w fits lead [] x =
       cc (laws.ring.mul_comm 𝟘 (value F d x), laws.ring.mul_zero (value F d x), laws.ring.add_zero 𝟘)
-  value-divided d m w fits lead (a ∷ p) x =
-      ap (λ t. a ⊕ (x ⊗ t)) (value-divided d m w fits lead p x) ∙
+  value-divided d m w fits lead (a ∷ p) x = ap (λ t. a ⊕ (x ⊗ t)) (value-divided d m w fits lead p x) ∙
       solve laws.ring (a ∷ x ∷ Q ∷ D ∷ R ∷ c ∷ [])
       (v 0 ⊞ (v 1 ⊡ ((v 2 ⊡ v 3) ⊞ v 4)))
       (((v 5 ⊞ (v 1 ⊡ v 2)) ⊡ v 3) ⊞ ((v 0 ⊞ (v 1 ⊡ v 4)) ⊞ (v 5 ⊡ v 3))) refl ∙
@@ -84,12 +83,10 @@ module _ {A : Type 0} (F : FieldOf A) (laws : IsField F) where
       )
 
       rest : value F (take m (plus F r (scale F c d))) x ≡ (a ⊕ (x ⊗ R)) ⊕ (c ⊗ D)
-      rest =
-          value-take (plus F r (scale F c d)) m x
-          (omega (
-            arith,
-            length-plus F laws r (scale F c d),
-            length-scale F laws c d,
-            length-remainder d m w p,
-          )) top ∙
+      rest = value-take (plus F r (scale F c d)) m x (omega (
+        arith,
+        length-plus F laws r (scale F c d),
+        length-scale F laws c d,
+        length-remainder d m w p,
+      )) top ∙
           value-plus F laws r (scale F c d) x ∙ ap (λ t. (a ⊕ (x ⊗ R)) ⊕ t) (value-scale F laws c d x)

@@ -39,9 +39,8 @@ module _ {A : Type 0} (F : FieldOf A) (laws : IsField F) where
       Q = value F q x
 
       at_x : value F r2 x ≡ value F f2 x ⊗ y
-      at_x =
-          solve laws.ring (Q ∷ value F r1 x ∷ value F r2 x ∷ []) (v 2)
-          ((v 0 ⊡ v 1) ⊞ ((v 0 ⊡ v 1) ⊞ v 2)) refl ∙
+      at_x = solve laws.ring (Q ∷ value F r1 x ∷ value F r2 x ∷ []) (v 2) ((v 0 ⊡ v 1) ⊞ ((v 0 ⊡ v 1) ⊞ v 2))
+          refl ∙
           ap (λ t. (Q ⊗ value F r1 x) ⊕ t) (sym (hr x) ∙ s0.0) ∙ ap (λ t. (Q ⊗ t) ⊕ (value F f0 x ⊗ y)) s1.0 ∙
           solve laws.ring (Q ∷ value F f1 x ∷ value F f0 x ∷ y ∷ []) ((v 0 ⊡ (v 1 ⊡ v 3)) ⊞ (v 2 ⊡ v 3))
           ((v 2 ⊞ (v 0 ⊡ v 1)) ⊡ v 3) refl ∙
@@ -50,8 +49,7 @@ module _ {A : Type 0} (F : FieldOf A) (laws : IsField F) where
   -- the cross product of two rows in turn stays
   next_cross : (R0 F0 R1 F1 R2 F2 Q W : A) → R0 ≡ (Q ⊗ R1) ⊕ R2 → F2 ≡ F0 ⊕ (Q ⊗ F1) →
       (R0 ⊗ F1) ⊕ (R1 ⊗ F0) ≡ W → (R1 ⊗ F2) ⊕ (R2 ⊗ F1) ≡ W
-  next_cross R0 F0 R1 F1 R2 F2 Q W hr hf h =
-      ap (λ t. (R1 ⊗ t) ⊕ (R2 ⊗ F1)) hf ∙
+  next_cross R0 F0 R1 F1 R2 F2 Q W hr hf h = ap (λ t. (R1 ⊗ t) ⊕ (R2 ⊗ F1)) hf ∙
       solve laws.ring (Q ∷ R1 ∷ R2 ∷ F0 ∷ F1 ∷ []) ((v 1 ⊡ (v 3 ⊞ (v 0 ⊡ v 4))) ⊞ (v 2 ⊡ v 4))
       ((((v 0 ⊡ v 1) ⊞ v 2) ⊡ v 4) ⊞ (v 1 ⊡ v 3)) refl ∙
       ap (λ t. (t ⊗ F1) ⊕ (R1 ⊗ F0)) (sym hr) ∙ h
@@ -172,8 +170,7 @@ module _ {A : Type 0} (F : FieldOf A) (laws : IsField F) where
 
     -- the cofactor is not zero
     pub factor_not_zero : (points values : List A) (below : ℕ) (r f : List A) → 𝟙 ≢ 𝟘 → Apart points →
-        below ≤ length points →
-        IsKeyRow points values (vanish F points) below r f → Each (λ a. a ≡ 𝟘) f → ⊥
+        below ≤ length points → IsKeyRow points values (vanish F points) below r f → Each (λ a. a ≡ 𝟘) f → ⊥
     factor_not_zero points values below r f one d le key z =
         vanish_somewhere points one (λ x. sym (key.crossed.2 x) ∙
         cc (
@@ -195,16 +192,14 @@ module _ {A : Type 0} (F : FieldOf A) (laws : IsField F) where
         IsKeyRow points values (vanish F points) below r f → length p ≤ suc keep → fix + suc keep ≤ below →
         below + fix ≤ length points → length points ≤ agree F p points (map Some values) + fix →
         ((x : A) → value F r x ≡ value F f x ⊗ value F q x) → (x : A) → value F q x ≡ value F p x
-    quotient_is points values below keep fix r f p q one d le key hp wide narrow enough hq =
-        same_values F laws q p
-        (cancel F laws endless f (plus F q p) (factor_not_zero points values below r f one d le key)
+    quotient_is points values below keep fix r f p q one d le key hp wide narrow enough hq = same_values F
+        laws q p (cancel F laws endless f (plus F q p) (factor_not_zero points values below r f one d le key)
         (λ x. cc (
           value-plus F laws q p x,
           laws.ring.mul_add (value F f x) (value F q x) (value F p x),
           hq x,
-          same_values F laws r (times F f p)
-              (row_is_product F laws r f p points values below keep fix d key.row key.short
-              (let a = key.room in omega arith) hp wide narrow enough) x,
+          same_values F laws r (times F f p) (row_is_product F laws r f p points values below keep fix d
+              key.row key.short (let a = key.room in omega arith) hp wide narrow enough) x,
           value-times F laws f p x,
           laws.ring.add_self (value F r x),
         )))

@@ -26,8 +26,7 @@ module _ {A : Type 0} (F : FieldOf A) (laws : IsField F) where
 
   -- at most one polynomial takes as many values as it has coefficients
   pub one_takes : (points values p q : List A) → Apart points → length p ≤ length points →
-      Takes F p points values →
-      length q ≤ length points → Takes F q points values → trim F p ≡ trim F q
+      Takes F p points values → length q ≤ length points → Takes F q points values → trim F p ≡ trim F q
   one_takes points values p q d hp tp hq tq =
       trim_same F laws p q (plus_zero F laws points p q d (meet_takes points values p q tp tq) hp hq)
 
@@ -43,8 +42,7 @@ module _ {A : Type 0} (F : FieldOf A) (laws : IsField F) where
   pub divided : (p d : List A) (m : ℕ) → length d ≡ m + 1 → get_or d m F.zero ≢ F.zero → (x : A) →
       value F p x ≡ F.add (F.mul (value F (quotient F d m (F.inv (get_or d m F.zero)) p) x) (value F d x))
       (value F (remainder F d m (F.inv (get_or d m F.zero)) p) x)
-  divided p d m size lead x =
-      value-divided F laws d m (F.inv (get_or d m F.zero)) (omega arith)
+  divided p d m size lead x = value-divided F laws d m (F.inv (get_or d m F.zero)) (omega arith)
       (laws.ring.mul_comm (F.inv (get_or d m F.zero)) (get_or d m F.zero)
       ∙ laws.mul_inv (get_or d m F.zero) lead) p x
 

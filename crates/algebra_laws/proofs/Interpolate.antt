@@ -15,8 +15,7 @@ module _ {A : Type 0} (F : FieldOf A) (laws : IsField F) where
   pub value-vanish : (r : A) (rs : List A) (x : A) →
       value F (vanish F (r ∷ rs)) x ≡ (r ⊕ x) ⊗ value F (vanish F rs) x
   unfolding vanish value
-  value-vanish r rs x =
-      value-times F laws (r ∷ 𝟙 ∷ []) (vanish F rs) x ∙
+  value-vanish r rs x = value-times F laws (r ∷ 𝟙 ∷ []) (vanish F rs) x ∙
       solve laws.ring (r ∷ x ∷ value F (vanish F rs) x ∷ []) ((v 0 ⊞ (v 1 ⊡ (i ⊞ (v 1 ⊡ o)))) ⊡ v 2)
       ((v 0 ⊞ v 1) ⊡ v 2) refl
 
@@ -48,9 +47,8 @@ module _ {A : Type 0} (F : FieldOf A) (laws : IsField F) where
   unfolding vanish value
   vanish_else [] x one h e = one (cc (e, laws.ring.mul_zero x, laws.ring.add_zero 𝟙))
   vanish_else (r ∷ rs) x one h e =
-      vanish_else rs x one h.1
-      (factor_zero F laws (r ⊕ x) (value F (vanish F rs) x) (sym (value-vanish r rs x) ∙ e)
-      (λ same. h.0 (sym (sum_zero laws.ring r x same))))
+      vanish_else rs x one h.1 (factor_zero F laws (r ⊕ x) (value F (vanish F rs) x)
+      (sym (value-vanish r rs x) ∙ e) (λ same. h.0 (sym (sum_zero laws.ring r x same))))
 
   -- a multiple has as many coefficients
   pub length-scale : (c : A) (p : List A) → length (scale F c p) ≡ length p

@@ -10,10 +10,8 @@ use borrow.Rule.Slice.PartMut.{put_mid}
 pub get_behind : {X : Type 0} (xs ys : List X) (k : ℕ) (x : X) → slice_get ys k ≡ Some x →
     slice_get (xs ++ ys) (length xs + k) ≡ Some x
 get_behind [] ys k x h = subst (λ n. slice_get ys n ≡ Some x) (let e : k ≡ 0 + k = omega arith in e) h
-get_behind (z ∷ xs) ys k x h =
-    subst (λ n. slice_get (z ∷ xs ++ ys) n ≡ Some x)
-    (let e : suc (length xs + k) ≡ suc (length xs) + k = omega arith in e)
-    (get_behind xs ys k x h)
+get_behind (z ∷ xs) ys k x h = subst (λ n. slice_get (z ∷ xs ++ ys) n ≡ Some x)
+    (let e : suc (length xs + k) ≡ suc (length xs) + k = omega arith in e) (get_behind xs ys k x h)
 
 -- at a place of a list something stands
 pub get_within : {X : Type 0} (xs : List X) (k : ℕ) → k < length xs → None ≡ slice_get xs k → ⊥
@@ -112,8 +110,7 @@ pub get-map_range : {X : Type 0} (f : ℕ → X) (n a i : ℕ) → i < n →
     slice_get (map f (range_with_len a n)) i ≡ Some (f (a + i))
 get-map_range f zero a i l = absurd (omega (arith, l))
 get-map_range f (suc n) a zero l = ap (λ k. Some (f k)) (let e : a ≡ a + 0 = omega arith in e)
-get-map_range f (suc n) a (suc i) l =
-    get-map_range f n (a + 1) i (omega (arith, l))
+get-map_range f (suc n) a (suc i) l = get-map_range f n (a + 1) i (omega (arith, l))
     ∙ ap (λ k. Some (f k)) (let e : a + 1 + i ≡ a + suc i = omega arith in e)
 
 -- ---- one list or another

@@ -21,8 +21,7 @@ module _ {A : Type 0} (F : FieldOf A) (laws : IsField F) where
   multiple_of_vanish (r ∷ rs) (a ∷ p) d z =
       let below = multiple_of_vanish rs (quotient_at F r p) d.1 (roots_below F laws a p r rs d.0 z.0 z.1) in (
         below.0,
-        λ x.
-            value-quotient_at F laws r a p x ∙ ap (λ t. t ⊕ ((x ⊕ r) ⊗ value F (quotient_at F r p) x)) z.0
+        λ x. value-quotient_at F laws r a p x ∙ ap (λ t. t ⊕ ((x ⊕ r) ⊗ value F (quotient_at F r p) x)) z.0
             ∙ ap (λ t. 𝟘 ⊕ ((x ⊕ r) ⊗ t)) (below.1 x)
             ∙ solve laws.ring (x ∷ r ∷ value F below.0 x ∷ value F (vanish F rs) x ∷ [])
             (o ⊞ ((v 0 ⊞ v 1) ⊡ (v 2 ⊡ v 3))) (v 2 ⊡ ((v 1 ⊞ v 0) ⊡ v 3)) refl
@@ -39,8 +38,7 @@ module _ {A : Type 0} (F : FieldOf A) (laws : IsField F) where
       let w = interpolate F xs ys in
       let m = multiple_of_vanish xs (plus F r (times F f w)) d (zero_at xs ys w takes solves) in (
         m.0,
-        λ x.
-            solve laws.ring (value F r x ∷ value F f x ∷ value F w x ∷ []) (v 0)
+        λ x. solve laws.ring (value F r x ∷ value F f x ∷ value F w x ∷ []) (v 0)
             ((v 1 ⊡ v 2) ⊞ (v 0 ⊞ (v 1 ⊡ v 2))) refl
             ∙ ap (λ t. (value F f x ⊗ value F w x) ⊕ t) (sym (of_sum w x) ∙ m.1 x),
       )

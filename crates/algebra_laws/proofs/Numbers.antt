@@ -19,6 +19,5 @@ sum_through-same f g (suc k) same =
 -- numbers of the same first 16 bytes
 pub from_le_bytes-same : (xs ys : List ℕ) → ((i : ℕ) → i < 16 → get_or xs i 0 ≡ get_or ys i 0) →
     from_le_bytes w128 xs ≡ from_le_bytes w128 ys
-from_le_bytes-same xs ys same =
-    sum_through-same (λ i. byte_worth i (get_or xs i 0)) (λ i. byte_worth i (get_or ys i 0)) 15
-    (λ i below. ap (byte_worth i) (same i (omega (arith, below))))
+from_le_bytes-same xs ys same = sum_through-same (λ i. byte_worth i (get_or xs i 0))
+    (λ i. byte_worth i (get_or ys i 0)) 15 (λ i below. ap (byte_worth i) (same i (omega (arith, below))))

@@ -16,8 +16,7 @@ module _ {A : Type 0} (F : FieldOf A) (laws : IsField F) where
   unfolding value shifted
   value-next [] k x h = absurd (omega arith)
   value-next (a ∷ p) zero x h = sym (zero_add laws.ring (a ⊕ (x ⊗ 𝟘)))
-  value-next (a ∷ p) (suc k) x h =
-      ap (λ t. a ⊕ (x ⊗ t)) (value-next p k x (omega arith)) ∙
+  value-next (a ∷ p) (suc k) x h = ap (λ t. a ⊕ (x ⊗ t)) (value-next p k x (omega arith)) ∙
       solve laws.ring (a ∷ x ∷ value F (take k p) x ∷ value F (shifted F k (get_or p k 𝟘)) x ∷ [])
       (v 0 ⊞ (v 1 ⊡ (v 2 ⊞ v 3))) ((v 0 ⊞ (v 1 ⊡ v 2)) ⊞ (o ⊞ (v 1 ⊡ v 3))) refl
 

@@ -27,8 +27,7 @@ module _ {A : Type 0} (F : FieldOf A) (laws : IsField F) where
   unfolding quotient_at value
   value-quotient_at r a [] x =
       solve laws.ring (a ∷ x ∷ r ∷ []) (v 0 ⊞ (v 1 ⊡ o)) ((v 0 ⊞ (v 2 ⊡ o)) ⊞ ((v 1 ⊞ v 2) ⊡ o)) refl
-  value-quotient_at r a (b ∷ p) x =
-      ap (λ t. a ⊕ (x ⊗ t)) (value-quotient_at r b p x) ∙
+  value-quotient_at r a (b ∷ p) x = ap (λ t. a ⊕ (x ⊗ t)) (value-quotient_at r b p x) ∙
       solve laws.ring (a ∷ x ∷ r ∷ value F (b ∷ p) r ∷ value F (quotient_at F r p) x ∷ [])
       (v 0 ⊞ (v 1 ⊡ (v 3 ⊞ ((v 1 ⊞ v 2) ⊡ v 4))))
       ((v 0 ⊞ (v 2 ⊡ v 3)) ⊞ ((v 1 ⊞ v 2) ⊡ (v 3 ⊞ (v 1 ⊡ v 4)))) refl
@@ -36,8 +35,7 @@ module _ {A : Type 0} (F : FieldOf A) (laws : IsField F) where
   -- a further root is a root of the quotient
   root_below : (a : A) (p : List A) (r s : A) → r ≢ s → value F (a ∷ p) r ≡ 𝟘 → value F (a ∷ p) s ≡ 𝟘 →
       value F (quotient_at F r p) s ≡ 𝟘
-  root_below a p r s ne hr hs =
-      factor_zero F laws (s ⊕ r) (value F (quotient_at F r p) s)
+  root_below a p r s ne hr hs = factor_zero F laws (s ⊕ r) (value F (quotient_at F r p) s)
       (cc (value-quotient_at r a p s, hr, hs, zero_add laws.ring ((s ⊕ r) ⊗ value F (quotient_at F r p) s)))
       (λ e. ne (sym (sum_zero laws.ring s r e)))
 

@@ -31,8 +31,7 @@ module _ {A : Type 0} (F : FieldOf A) (laws : IsField F) where
       solve laws.ring (value F r x ∷ c ∷ value F d x ∷ x ∷ []) (v 0 ⊞ (v 1 ⊡ v 2))
       (v 0 ⊞ ((v 1 ⊞ (v 3 ⊡ o)) ⊡ v 2)) refl
   value-added [] d (suc s) c x h = absurd (omega arith)
-  value-added (a ∷ r) d (suc s) c x h =
-      ap (λ t. a ⊕ (x ⊗ t)) (value-added r d s c x (omega arith)) ∙
+  value-added (a ∷ r) d (suc s) c x h = ap (λ t. a ⊕ (x ⊗ t)) (value-added r d s c x (omega arith)) ∙
       solve laws.ring (a ∷ x ∷ value F r x ∷ value F (shifted F s c) x ∷ value F d x ∷ [])
       (v 0 ⊞ (v 1 ⊡ (v 2 ⊞ (v 3 ⊡ v 4)))) ((v 0 ⊞ (v 1 ⊡ v 2)) ⊞ ((o ⊞ (v 1 ⊡ v 3)) ⊡ v 4)) refl
 
@@ -64,7 +63,6 @@ module _ {A : Type 0} (F : FieldOf A) (laws : IsField F) where
 
   -- one multiple more taken from a row
   pub reduce_rest : (Q V D R N W : A) → R ≡ (Q ⊗ D) ⊕ N → W ≡ N ⊕ (V ⊗ D) → R ≡ ((Q ⊕ V) ⊗ D) ⊕ W
-  reduce_rest Q V D R N W h k =
-      h ∙ solve laws.ring (Q ∷ V ∷ D ∷ N ∷ []) ((v 0 ⊡ v 2) ⊞ v 3)
+  reduce_rest Q V D R N W h k = h ∙ solve laws.ring (Q ∷ V ∷ D ∷ N ∷ []) ((v 0 ⊡ v 2) ⊞ v 3)
       (((v 0 ⊞ v 1) ⊡ v 2) ⊞ (v 3 ⊞ (v 1 ⊡ v 2))) refl ∙
       ap (λ t. ((Q ⊕ V) ⊗ D) ⊕ t) (sym k)

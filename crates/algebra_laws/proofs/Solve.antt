@@ -114,8 +114,7 @@ module _ {A : Type 0} {◌⊕◌ ◌⊗◌ : A → A → A} {𝟘 𝟙 : A} (R :
   -- the meaning of a joined product
   mono-join : (m n : List ℕ) → mono (join m n) ≡ mono m ⊗ mono n
   mono-join [] n = sym (one_mul R (mono n))
-  mono-join (x ∷ m) n =
-      cc (mono-put x (join m n), mono-join m n, R.mul_assoc (at x) (mono m) (mono n))
+  mono-join (x ∷ m) n = cc (mono-put x (join m n), mono-join m n, R.mul_assoc (at x) (mono m) (mono n))
 
   -- a product put into a sum is a summand more
   all-flip : (m : List ℕ) (s : List (List ℕ)) → all (flip m s) ≡ mono m ⊕ all s
@@ -131,20 +130,18 @@ module _ {A : Type 0} {◌⊕◌ ◌⊗◌ : A → A → A} {𝟘 𝟙 : A} (R :
   -- the meaning of a merged sum
   all-merge : (s t : List (List ℕ)) → all (merge s t) ≡ all s ⊕ all t
   all-merge [] t = sym (zero_add R (all t))
-  all-merge (m ∷ s) t =
-      cc (all-flip m (merge s t), all-merge s t, R.add_assoc (mono m) (all s) (all t))
+  all-merge (m ∷ s) t = cc (all-flip m (merge s t), all-merge s t, R.add_assoc (mono m) (all s) (all t))
 
   -- the meaning of a product spread over a sum
   all-spread : (m : List ℕ) (s t : List (List ℕ)) → all (spread m s t) ≡ (mono m ⊗ all s) ⊕ all t
   all-spread m [] t = cc (R.mul_zero (mono m), zero_add R (all t))
-  all-spread m (n ∷ s) t =
-      cc (
-        all-flip (join m n) (spread m s t),
-        all-spread m s t,
-        mono-join m n,
-        R.mul_add (mono m) (mono n) (all s),
-        R.add_assoc (mono m ⊗ mono n) (mono m ⊗ all s) (all t),
-      )
+  all-spread m (n ∷ s) t = cc (
+    all-flip (join m n) (spread m s t),
+    all-spread m s t,
+    mono-join m n,
+    R.mul_add (mono m) (mono n) (all s),
+    R.add_assoc (mono m ⊗ mono n) (mono m ⊗ all s) (all t),
+  )
 
   -- the meaning of a product of sums
   all-product : (s t : List (List ℕ)) → all (product s t) ≡ all s ⊗ all t

@@ -18,8 +18,7 @@ module _ {A : Type 0} (F : FieldOf A) (laws : IsField F) where
   sum_first : (f : ℕ → A) (n : ℕ) → sum_below F f (suc n) ≡ f 0 ⊕ sum_below F (λ i. f (suc i)) n
   unfolding sum_below
   sum_first f zero = laws.ring.add_comm 𝟘 (f 0)
-  sum_first f (suc n) =
-      ap (λ s. s ⊕ f (suc n)) (sum_first f n) ∙
+  sum_first f (suc n) = ap (λ s. s ⊕ f (suc n)) (sum_first f n) ∙
       laws.ring.add_assoc (f 0) (sum_below F (λ i. f (suc i)) n) (f (suc n))
 
   -- a factor of a sum is one of each summand
@@ -49,7 +48,6 @@ module _ {A : Type 0} (F : FieldOf A) (laws : IsField F) where
   unfolding value sum_below
   value_as_sum [] x = refl
   value_as_sum (a ∷ p) x =
-      ap₂ F.add (term_first a p x)
-      (ap (λ v. x ⊗ v) (value_as_sum p x) ∙ sum_times x (term p x) (length p) ∙
+      ap₂ F.add (term_first a p x) (ap (λ v. x ⊗ v) (value_as_sum p x) ∙ sum_times x (term p x) (length p) ∙
       sum_same (λ i. x ⊗ term p x i) (λ i. term (a ∷ p) x (suc i)) (length p) (term_next a p x)) ∙
       sym (sum_first (term (a ∷ p) x) (length p))

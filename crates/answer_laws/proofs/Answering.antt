@@ -77,6 +77,5 @@ module _ (command : Command) (cells : Cells) (old new : Seen) (end : Ending) (an
 pub disk-answered : (command : Command) (cells : Cells) (old new : Seen) (end : Ending) →
     Answers command old new end → opens_store command ≡ true → old.disk ≡ Some cells →
     AreBytes (reads cells) → (Rose old.disk_faults new.disk_faults → ⊥) → AnsweredFor cells old end
-disk-answered command cells old new end answers opens told all calm =
-    by-judged command cells old new end answers opens told calm
-    (bytes-judged (journal_read cells) (take-all largest_journal (reads cells) all))
+disk-answered command cells old new end answers opens told all calm = by-judged command cells old new end
+    answers opens told calm (bytes-judged (journal_read cells) (take-all largest_journal (reads cells) all))

@@ -108,9 +108,8 @@ module _ (P : List Record → Type 0) (Q : List Record → Record → Type 0)
   at-record : (n : ℕ) → Reads n → (rs : List Record) (rest : List ℕ) → length rest < n →
       IsTrue (list_all is_in_grammar rs) → P rs → drop (base_of area) bytes ≡ entries rs ++ 1 ∷ rest →
       IsBytes rest → (found : Option (Record × List ℕ)) → record_at rest ≡ found → Stops P Q bytes area
-  at-record n again rs rest few all good is fits None e =
-      breaks rs good (base_of area + length (entries rs) + 1)
-      (record {
+  at-record n again rs rest few all good is fits None e = breaks rs good
+      (base_of area + length (entries rs) + 1) (record {
         records = rs;
         rest = rest;
         in_grammar = all;
@@ -118,8 +117,7 @@ module _ (P : List Record → Type 0) (Q : List Record → Record → Type 0)
         none = none-spelled rest e;
         place = refl;
       }) refl
-  at-record n again rs rest few all good is fits (Some x) e =
-      (let took = record_takes rest x fits e in
+  at-record n again rs rest few all good is fits (Some x) e = (let took = record_takes rest x fits e in
       goes-on n again rs x.0 x.1 (shorter rest x.1 (spelling x.0) n few took.0.parts)
       (good-more x.0 rs took.1 all) good
       (one-more (drop (base_of area) bytes) rs x.0 rest x.1 is took.0.parts) took.0.rest_fits)
@@ -136,22 +134,19 @@ module _ (P : List Record → Type 0) (Q : List Record → Record → Type 0)
 
   reads : (n : ℕ) → Reads n
   reads zero rs rest few all good is fits = absurd (omega (arith, few))
-  reads (suc n) rs [] few all good is fits =
-      ends rs good (base_of area + length (entries rs))
-      (record {
-        records = rs;
-        in_grammar = all;
-        bytes_are = is ∙ append-nil (entries rs);
-        place = refl;
-      }) refl
+  reads (suc n) rs [] few all good is fits = ends rs good (base_of area + length (entries rs)) (record {
+    records = rs;
+    in_grammar = all;
+    bytes_are = is ∙ append-nil (entries rs);
+    place = refl;
+  }) refl
   reads (suc n) rs (g ∷ rest) few all good is fits =
       at-gate n (reads n) rs g rest (omega (arith, few)) all good is (IsBytes-rest g rest fits)
 
   -- from where the area begins
   stops : P [] → AreBytes bytes → Stops P Q bytes area
-  stops none all =
-      reads (suc (length (drop (base_of area) bytes))) [] (drop (base_of area) bytes) (omega arith) refl none refl
-      (IsBytes-drop (base_of area) bytes (IsBytes-from_all bytes all))
+  stops none all = reads (suc (length (drop (base_of area) bytes))) [] (drop (base_of area) bytes)
+      (omega arith) refl none refl (IsBytes-drop (base_of area) bytes (IsBytes-from_all bytes all))
 
 -- ---- what a start reads
 
@@ -182,22 +177,20 @@ module _ (bytes : List ℕ) (area : Area) (active : IsSwitched bytes area) where
   judged-stops : Stops AreAccepted IsStopped bytes area → 9 < length bytes → Judged bytes
   judged-stops (stands rs good is) many =
       judged-stands bytes rs good (area, record { active = active; holds = is }) many
-  judged-stops (ends rs good at e same) many =
-      Judged.broken at many (inr (record {
-        area = area;
-        records = rs;
-        active = active;
-        accepted = good;
-        stops = inl (e, same);
-      }))
-  judged-stops (breaks rs good at b same) many =
-      Judged.broken at many (inr (record {
-        area = area;
-        records = rs;
-        active = active;
-        accepted = good;
-        stops = inr (inl (b, same));
-      }))
+  judged-stops (ends rs good at e same) many = Judged.broken at many (inr (record {
+    area = area;
+    records = rs;
+    active = active;
+    accepted = good;
+    stops = inl (e, same);
+  }))
+  judged-stops (breaks rs good at b same) many = Judged.broken at many (inr (record {
+    area = area;
+    records = rs;
+    active = active;
+    accepted = good;
+    stops = inr (inl (b, same));
+  }))
   judged-stops (stopped rs good r rest all is why) many =
       Judged.broken (base_of area + length (entries rs) + 1) many (inr (record {
         area = area;
@@ -216,12 +209,11 @@ module _ (bytes : List ℕ) (area : Area) (active : IsSwitched bytes area) where
 
 -- a start takes any bytes for no store, for one with a first bad place, or for accepted records
 pub bytes-judged : (bytes : List ℕ) → AreBytes bytes → Judged bytes
-bytes-judged bytes all =
-    by-length bytes (λ many. elim (named bytes) [
-      | inl found ↦ judged-stops bytes found.0 found.1
-          (stops AreAccepted IsStopped next-accepted bytes found.0 tt all) many
-      | inr other ↦ Judged.broken 0 many (inl (other, refl))
-    ])
+bytes-judged bytes all = by-length bytes (λ many. elim (named bytes) [
+  | inl found ↦ judged-stops bytes found.0 found.1
+      (stops AreAccepted IsStopped next-accepted bytes found.0 tt all) many
+  | inr other ↦ Judged.broken 0 many (inl (other, refl))
+])
 
 -- ---- what an init reads
 
@@ -284,7 +276,6 @@ module _ (bytes : List ℕ) (area : Area) (active : IsSwitched bytes area) where
 -- an init takes any bytes for a free disk, for a store already, or for one with a first bad place
 pub bytes-judged-by-init : (bytes : List ℕ) → AreBytes bytes → JudgedByInit bytes
 bytes-judged-by-init bytes all = elim (named bytes) [
-  | inl found ↦ init-stops bytes found.0 found.1
-      (stops Any Never (λ rs r good. inl tt) bytes found.0 tt all)
+  | inl found ↦ init-stops bytes found.0 found.1 (stops Any Never (λ rs r good. inl tt) bytes found.0 tt all)
   | inr other ↦ JudgedByInit.broken 0 (inl (inl (other, refl)))
 ]

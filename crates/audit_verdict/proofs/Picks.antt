@@ -37,8 +37,7 @@ sum_over-once : (c : Challenge) (f g : ℕ → ℕ) (pick n : ℕ) → pick < n 
     (nim_add (f (picked_row c.seed c.rows pick)) (g (picked_row c.seed c.rows pick))))
 unfolding sum_over
 sum_over-once c f g pick zero below others = absurd (omega (arith, below))
-sum_over-once c f g pick (suc n) below others =
-    go (nat_eq n pick) refl
+sum_over-once c f g pick (suc n) below others = go (nat_eq n pick) refl
     (λ less. sum_over-once c f g pick n less (λ k under. others k (omega (arith, under))))
   where
     at : ℕ → ℕ

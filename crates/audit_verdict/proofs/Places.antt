@@ -6,8 +6,7 @@ use Rattle.column_defs.proofs.CountLaws.{length-counts_after}
 
 -- one place more of a list that a function makes
 pub put_more : {X : Type 0} (f : ℕ → X) (xs : List X) (i : ℕ) (x d : X) → i < length xs → x ≡ f i →
-    ((k : ℕ) → k < i → get_or xs k d ≡ f k) →
-    (k : ℕ) → k < i + 1 → get_or (set xs i x) k d ≡ f k
+    ((k : ℕ) → k < i → get_or xs k d ≡ f k) → (k : ℕ) → k < i + 1 → get_or (set xs i x) k d ≡ f k
 put_more {X} f xs i x d below e each k within =
     subst (λ (y : X). get_or (set xs i y) k d ≡ f k) (sym e) (fill_by_more f xs i d below each k within)
 
@@ -24,9 +23,8 @@ get_or-counted p [] heard counts k in_xs in_heard in_counts = absurd (omega (ari
 get_or-counted p (x ∷ xs) [] counts k in_xs in_heard in_counts = absurd (omega (arith, in_heard))
 get_or-counted p (x ∷ xs) (a ∷ heard) [] k in_xs in_heard in_counts = absurd (omega (arith, in_counts))
 get_or-counted p (x ∷ xs) (a ∷ heard) (n ∷ counts) zero in_xs in_heard in_counts = refl
-get_or-counted p (x ∷ xs) (a ∷ heard) (n ∷ counts) (suc k) in_xs in_heard in_counts =
-    get_or-counted p xs heard counts k (omega (arith, in_xs)) (omega (arith, in_heard))
-    (omega (arith, in_counts))
+get_or-counted p (x ∷ xs) (a ∷ heard) (n ∷ counts) (suc k) in_xs in_heard in_counts = get_or-counted p xs
+    heard counts k (omega (arith, in_xs)) (omega (arith, in_heard)) (omega (arith, in_counts))
 
 -- counts by their places
 pub counted-each : (p xs : List ℕ) (heard : List (Option ℕ)) (old new : List ℕ) (n : ℕ) → length xs ≡ n →
@@ -81,10 +79,7 @@ counted-grow p (x ∷ xs) (a ∷ heard) (n ∷ counts) rest (suc j) = counted-gr
 
 -- a round raises a provider's count by one at most
 pub counts-grow : (p xs : List ℕ) (heard : List (Option ℕ)) (by new : List ℕ) (n j : ℕ) →
-    new ≡ counts_after p xs heard (take n by) →
-    get_or (new ++ drop n by) j 0 ≤ get_or by j 0 + 1
-counts-grow p xs heard by new n j is =
-    subst (λ (front : List ℕ). get_or (front ++ drop n by) j 0 ≤ get_or by j 0 + 1) (sym is)
-    (subst (λ (whole : List ℕ). get_or (counts_after p xs heard (take n by) ++ drop n by) j 0 ≤ get_or whole j
-    0 + 1) (take-append-drop n by)
-    (counted-grow p xs heard (take n by) (drop n by) j))
+    new ≡ counts_after p xs heard (take n by) → get_or (new ++ drop n by) j 0 ≤ get_or by j 0 + 1
+counts-grow p xs heard by new n j is = subst (λ (front : List ℕ). get_or (front ++ drop n by) j 0 ≤ get_or by
+    j 0 + 1) (sym is) (subst (λ (whole : List ℕ). get_or (counts_after p xs heard (take n by) ++ drop n by) j
+    0 ≤ get_or whole j 0 + 1) (take-append-drop n by) (counted-grow p xs heard (take n by) (drop n by) j))

@@ -89,8 +89,7 @@ module _ (o : Object) (bytes : List ℕ) (c : Challenge) (heard : List (Option �
 
   bare-at : (j : ℕ) → j < o.shape.n → get_or bare j None ≡ bare_answer o c j (answer_of heard j)
   unfolding bare
-  bare-at j below =
-      get_or-bare_answers o c 0 j heard (omega (arith, below, long))
+  bare-at j below = get_or-bare_answers o c 0 j heard (omega (arith, below, long))
       ∙ ap (λ k. bare_answer o c k (get_or heard j None)) (let e : 0 + j ≡ j = omega arith in e)
 
   -- a right answer agrees
@@ -135,8 +134,7 @@ module _ (o : Object) (bytes : List ℕ) (c : Challenge) (heard : List (Option �
   -- by a polynomial with the same values
   values-same : (p : List ℕ) → Decides o c heard p → (x : ℕ) → value p x ≡ value right x
   unfolding bare
-  values-same p decides x =
-      same_value o.shape.n o.shape.l o.shape.b (points o) bare p right shape
+  values-same p decides x = same_value o.shape.n o.shape.l o.shape.b (points o) bare p right shape
       (Apart-points o (omega (arith, shape.1)))
       (length-map-range_with_len (point o) 0 o.shape.n ∙ sym (length-bare_answers o c 0 heard ∙ long))
       (length-bare_answers o c 0 heard ∙ long) decides accepted x
@@ -165,41 +163,34 @@ module _ (o : Object) (bytes : List ℕ) (c : Challenge) (heard : List (Option �
   pub right-not_counted : (old new : Sums) (j : ℕ) → length old.counts ≡ o.shape.n →
       Judges o c heard old new → j < o.shape.n →
       answer_of heard j ≡ right_answer o bytes j c → count_of_provider new j ≡ count_of_provider old j
-  right-not_counted old new j many judges below is =
-      count-at old new j many judges below
+  right-not_counted old new j many judges below is = count-at old new j many judges below
       ∙ ap (λ b. if b then count_of_provider old j else count_of_provider old j + 1)
       (ap (is_seen (value right (point o j))) (ap (bare_answer o c j) is ∙ right-value j)
       ∙ seen-same (value right (point o j)))
 
   -- an answer that is another without its mask sum counts
   other-counted : (old new : Sums) (j : ℕ) → length old.counts ≡ o.shape.n → Judges o c heard old new →
-      j < o.shape.n →
-      bare_answer o c j (answer_of heard j) ≢ Some (value right (point o j)) →
+      j < o.shape.n → bare_answer o c j (answer_of heard j) ≢ Some (value right (point o j)) →
       count_of_provider new j ≡ count_of_provider old j + 1
-  other-counted old new j many judges below other =
-      count-at old new j many judges below
+  other-counted old new j many judges below other = count-at old new j many judges below
       ∙ ap (λ b. if b then count_of_provider old j else count_of_provider old j + 1)
       (unseen (value right (point o j)) (bare_answer o c j (answer_of heard j)) other)
 
   -- who did not answer is counted
   pub absent-counted : (old new : Sums) (j : ℕ) → length old.counts ≡ o.shape.n → Judges o c heard old new →
-      j < o.shape.n →
-      answer_of heard j ≡ None → count_of_provider new j ≡ count_of_provider old j + 1
+      j < o.shape.n → answer_of heard j ≡ None → count_of_provider new j ≡ count_of_provider old j + 1
   absent-counted old new j many judges below is =
-      other-counted old new j many judges below
-      (λ e. let f : None ≡ Some (value right (point o j)) =
-      sym (ap (bare_answer o c j) is ∙ bare-absent o c j) ∙ e in cc)
+      other-counted old new j many judges below (λ e. let f : None ≡ Some (value right (point o j)) = sym
+      (ap (bare_answer o c j) is ∙ bare-absent o c j) ∙ e in cc)
 
   -- who holds a block that is wrong in exactly one pick is counted
   pub differing-counted : (held : ℕ → Option (List ℕ)) (old new : Sums) (j : ℕ) →
       length old.counts ≡ o.shape.n → Judges o c heard old new → j < o.shape.n →
       answer_of heard j ≡ honest_answer c held → DiffersOnce o bytes j c held →
       count_of_provider new j ≡ count_of_provider old j + 1
-  differing-counted held old new j many judges below is once =
-      other-counted old new j many judges below
+  differing-counted held old new j many judges below is once = other-counted old new j many judges below
       (λ e. honest-differ c held (λ stripe. Some (columns o bytes j stripe)) once.pick once.picked once.others
-      once.differs
-      (λ none. let f : None ≡ Some (value right (point o j)) =
-      sym (ap (bare_answer o c j) none ∙ bare-absent o c j) ∙ right-value j in cc)
+      once.differs (λ none. let f : None ≡ Some (value right (point o j)) = sym
+      (ap (bare_answer o c j) none ∙ bare-absent o c j) ∙ right-value j in cc)
       (bare-same o c j (honest_answer c held) (right_answer o bytes j c)
       (sym (ap (bare_answer o c j) is) ∙ e ∙ sym (right-value j))))

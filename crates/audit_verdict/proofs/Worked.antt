@@ -54,15 +54,13 @@ counts-one : (master bytes : List ℕ) →
     counts_after (right_row (example master) bytes (one_pick master bytes)) (points (example master))
     (bare_answers (example master) (one_pick master bytes) 0 (three_heard master bytes)) (0 ∷ 0 ∷ 0 ∷ 0 ∷ [])
     ≡ 0 ∷ 0 ∷ 0 ∷ 1 ∷ []
-counts-one master bytes =
-    simp (
-      agrees master bytes 0,
-      agrees master bytes 1,
-      agrees master bytes 2,
-      bare-absent (example master) (one_pick master bytes) 3,
-      is_seen-none (value (right_row (example master) bytes (one_pick master bytes))
-          (point (example master) 3)),
-    ) refl
+counts-one master bytes = simp (
+  agrees master bytes 0,
+  agrees master bytes 1,
+  agrees master bytes 2,
+  bare-absent (example master) (one_pick master bytes) 3,
+  is_seen-none (value (right_row (example master) bytes (one_pick master bytes)) (point (example master) 3)),
+) refl
 
 -- the worked round counts its one wrong provider
 pub judged-one : (master bytes : List ℕ) →

@@ -40,13 +40,11 @@ near_itself profile p short = record {
 -- the interpolating polynomial of the kept symbols has few coefficients
 pub codeword-short : (profile : Profile) (kept : List ℕ) → length kept ≡ profile.keep →
     length (interpolate (upto profile.keep) kept) ≤ profile.keep
-codeword-short profile kept long =
-    omega (
-      arith,
-      length-interpolate nim nim_laws (upto profile.keep) kept
-          (length-range_with_len 0 profile.keep ∙ sym long),
-      length-range_with_len 0 profile.keep,
-    )
+codeword-short profile kept long = omega (
+  arith,
+  length-interpolate nim nim_laws (upto profile.keep) kept (length-range_with_len 0 profile.keep ∙ sym long),
+  length-range_with_len 0 profile.keep,
+)
 
 -- a codeword opens to itself
 pub opens_itself : (profile : Profile) (kept block : List ℕ) → length kept ≡ profile.keep →

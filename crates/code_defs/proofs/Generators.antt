@@ -49,8 +49,7 @@ pub kept_row : (profile : Profile) (place n : ℕ) → n ≡ profile.keep → pl
     place < profile.size → IsGeneratorRow profile place (set (replicate n 0) place 1)
 kept_row profile place n is h within = record {
   full = length-set (replicate n 0) place 1 ∙ length-replicate n 0 ∙ is;
-  gives = λ kept long.
-      get_or-codeword profile kept place within ∙ value-kept profile.keep kept place long h ∙
+  gives = λ kept long. get_or-codeword profile kept place within ∙ value-kept profile.keep kept place long h ∙
       sym (dot-unit n place kept (omega arith) (omega arith));
 }
 
@@ -58,8 +57,7 @@ kept_row profile place n is h within = record {
 pub kept_multiplier : (keep size place : ℕ) → keep ≤ size → place < keep →
     nim_mul (multiplier place (upto size)) (value (vanish (range_with_len keep (size - keep))) place)
     ≡ multiplier place (upto keep)
-kept_multiplier keep size place le h =
-    ap (λ t. nim_mul (nim_inv t) V) split ∙
+kept_multiplier keep size place le h = ap (λ t. nim_mul (nim_inv t) V) split ∙
     ap (λ t. nim_mul t V) (nim_inv-mul A V (others_product-not_zero place (upto keep)) some) ∙
     cc (
       nim_ring.mul_assoc (nim_inv A) (nim_inv V) V,
@@ -103,8 +101,7 @@ pub parity_row : (profile : Profile) (place : ℕ) → profile.keep ≤ place �
     IsGeneratorRow profile place (map (coefficient profile.keep place) (upto profile.keep))
 parity_row profile place behind within = record {
   full = length-map-range_with_len (coefficient profile.keep place) 0 profile.keep;
-  gives = λ kept long.
-      get_or-codeword profile kept place within ∙
+  gives = λ kept long. get_or-codeword profile kept place within ∙
       value-interpolate (upto profile.keep) kept place (length-range_with_len 0 profile.keep ∙ sym long)
       (Apart-range 0 profile.keep)
       (Each-outside place 0 profile.keep (inr (omega arith))) ∙

@@ -26,8 +26,7 @@ gap_not_zero x p differ e = differ (sum_zero nim_ring x p e)
 -- (x + p) a = 1 and (y + p) b = 1 give (x + y) a b = a + b
 split_gap : (x y p a b : ℕ) → nim_mul (nim_add x p) a ≡ 1 → nim_mul (nim_add y p) b ≡ 1 →
     nim_mul (nim_add x y) (nim_mul a b) ≡ nim_add a b
-split_gap x y p a b ea eb =
-    solve nim_ring (x ∷ y ∷ p ∷ a ∷ b ∷ []) ((v 0 ⊞ v 1) ⊡ (v 3 ⊡ v 4))
+split_gap x y p a b ea eb = solve nim_ring (x ∷ y ∷ p ∷ a ∷ b ∷ []) ((v 0 ⊞ v 1) ⊡ (v 3 ⊡ v 4))
     ((((v 0 ⊞ v 2) ⊡ v 3) ⊡ v 4) ⊞ (((v 1 ⊞ v 2) ⊡ v 4) ⊡ v 3)) refl ∙
     cc (ea, eb, one_mul nim_ring a, one_mul nim_ring b, nim_ring.add_comm a b)
 
@@ -37,13 +36,12 @@ pub dot-scaled : (u w : ℕ → ℕ) (c : ℕ) (ps ys : List ℕ) → Each (λ p
 unfolding dot
 dot-scaled u w c [] ys is = sym (nim_ring.mul_zero c)
 dot-scaled u w c (p ∷ ps) [] is = sym (nim_ring.mul_zero c)
-dot-scaled u w c (p ∷ ps) (y ∷ ys) is =
-    cc (
-      is.0,
-      dot-scaled u w c ps ys is.1,
-      nim_ring.mul_assoc c (u p) y,
-      nim_ring.mul_add c (nim_mul (u p) y) (dot (map u ps) ys),
-    )
+dot-scaled u w c (p ∷ ps) (y ∷ ys) is = cc (
+  is.0,
+  dot-scaled u w c ps ys is.1,
+  nim_ring.mul_assoc c (u p) y,
+  nim_ring.mul_add c (nim_mul (u p) y) (dot (map u ps) ys),
+)
 
 -- the sum by coefficients that are sums
 dot-added : (u t w : ℕ → ℕ) (ps ys : List ℕ) → Each (λ p. w p ≡ nim_add (u p) (t p)) ps →
@@ -51,13 +49,12 @@ dot-added : (u t w : ℕ → ℕ) (ps ys : List ℕ) → Each (λ p. w p ≡ nim
 unfolding dot
 dot-added u t w [] ys is = sym (nim_ring.add_zero 0)
 dot-added u t w (p ∷ ps) [] is = sym (nim_ring.add_zero 0)
-dot-added u t w (p ∷ ps) (y ∷ ys) is =
-    cc (
-      is.0,
-      dot-added u t w ps ys is.1,
-      add_mul nim_ring (u p) (t p) y,
-      add_swap nim_ring (nim_mul (u p) y) (nim_mul (t p) y) (dot (map u ps) ys) (dot (map t ps) ys),
-    )
+dot-added u t w (p ∷ ps) (y ∷ ys) is = cc (
+  is.0,
+  dot-added u t w ps ys is.1,
+  add_mul nim_ring (u p) (t p) y,
+  add_swap nim_ring (nim_mul (u p) y) (nim_mul (t p) y) (dot (map u ps) ys) (dot (map t ps) ys),
+)
 
 -- a number is equal to itself
 nat_eq-same : (p : ℕ) → nat_eq p p ≡ true
@@ -114,8 +111,7 @@ others_product-not_zero x (p ∷ points) e = go (nat_eq p x) refl (others_produc
     go : (b : Bool) → nat_eq p x ≡ b → (others_product x points ≢ 0) →
         cond b (others_product x points) (nim_mul (nim_add x p) (others_product x points)) ≡ 0 → ⊥
     go true is some none = some none
-    go false is some none =
-        some (factor_zero nim nim_laws (nim_add x p) (others_product x points) none
+    go false is some none = some (factor_zero nim nim_laws (nim_add x p) (others_product x points) none
         (gap_not_zero x p (differ is)))
 
 -- the formula with one point more, over plain numbers
@@ -123,8 +119,7 @@ one_more : (V V0 w g h y0 S1 S0 S : ℕ) → nim_mul V0 w ≡ 1 → nim_mul g h 
     nim_add (nim_mul V S1) (nim_mul (nim_mul (nim_add y0 (nim_mul V0 S0)) w) V)
     ≡ nim_mul (nim_mul g V) (nim_add (nim_mul (nim_mul h w) y0) S)
 one_more V V0 w g h y0 S1 S0 S ew eg es =
-    solve nim_ring env
-    ((v 0 ⊡ v 6) ⊞ (((v 5 ⊞ (v 1 ⊡ v 7)) ⊡ v 2) ⊡ v 0))
+    solve nim_ring env ((v 0 ⊡ v 6) ⊞ (((v 5 ⊞ (v 1 ⊡ v 7)) ⊡ v 2) ⊡ v 0))
     ((v 0 ⊡ (v 6 ⊞ v 7)) ⊞ (((v 2 ⊡ v 5) ⊡ v 0) ⊞ ((v 0 ⊡ v 7) ⊞ ((v 1 ⊡ v 2) ⊡ (v 0 ⊡ v 7))))) refl ∙
     cc (
       ew,

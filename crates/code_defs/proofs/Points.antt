@@ -51,8 +51,7 @@ pub others_product-outside : (x : ℕ) (points : List ℕ) → Each (λ p. x ≢
     others_product x points ≡ value (vanish points) x
 unfolding others_product vanish_over value_over
 others_product-outside x [] out = cc (nim_ring.mul_zero x, nim_ring.add_zero 1)
-others_product-outside x (p ∷ points) out =
-    others_product-other x p points out.0 ∙
+others_product-outside x (p ∷ points) out = others_product-other x p points out.0 ∙
     cc (others_product-outside x points out.1, value-vanish nim nim_laws p points x, nim_ring.add_comm x p)
 
 -- the product over two lists of points

@@ -51,8 +51,7 @@ zero-symbol = omega arith
 times-symbols : (p q : List ℕ) → AreSymbols p → AreSymbols q → AreSymbols (times p q)
 unfolding times_over
 times-symbols [] q hp hq = tt
-times-symbols (a ∷ p) q hp hq =
-    plus-symbols (scale a q) (0 ∷ times p q) (scale-symbols a q hp.0 hq)
+times-symbols (a ∷ p) q hp hq = plus-symbols (scale a q) (0 ∷ times p q) (scale-symbols a q hp.0 hq)
     (zero-symbol, times-symbols p q hp.1 hq)
 
 -- of values
@@ -175,8 +174,7 @@ length-values p (x ∷ xs) = ap suc (length-values p xs)
 
 -- a polynomial of few coefficients that agrees with symbols at as many points has symbols as coefficients
 pub coefficients_are_symbols : (p xs : List ℕ) (ss : List (Option ℕ)) → Apart xs → AreSymbols xs →
-    Each SeenSymbol ss →
-    length p ≤ agree p xs ss → AreSymbols p
+    Each SeenSymbol ss → length p ≤ agree p xs ss → AreSymbols p
 coefficients_are_symbols p xs ss apart points seen short =
     let d : Apart (seen_points p xs ss) = Apart-seen_points p xs ss apart in
     let even = length-values p (seen_points p xs ss) in
@@ -191,8 +189,7 @@ coefficients_are_symbols p xs ss apart points seen short =
     (omega (arith, n, short))
     (omega (
       arith,
-      length-interpolate nim nim_laws (seen_points p xs ss)
-          (values_at (seen_points p xs ss) p) even,
+      length-interpolate nim nim_laws (seen_points p xs ss) (values_at (seen_points p xs ss) p) even,
     )))
     (interpolate-symbols (seen_points p xs ss) (values_at (seen_points p xs ss) p)
     (Each-seen_points is_symbol p xs ss points) (values-symbols p xs ss seen))
@@ -220,12 +217,11 @@ upto-symbols a (suc n) h = (omega (arith, h), upto-symbols (a + 1) n (omega (ari
 -- near a block
 pub near_symbols : (number : ℕ) (block p : List ℕ) → All is_symbol block →
     IsNear (profile_of number) block p → All is_symbol p
-near_symbols number block p symbols near =
-    all_from_each p (coefficients_are_symbols p (upto (profile_of number).size) (map Some block)
+near_symbols number block p symbols near = all_from_each p
+    (coefficients_are_symbols p (upto (profile_of number).size) (map Some block)
     (Apart-range 0 (profile_of number).size)
     (upto-symbols 0 (profile_of number).size (omega (arith, size-bound number)))
-    (each_present block (each_from_all block symbols))
-    (omega (
+    (each_present block (each_from_all block symbols)) (omega (
       arith,
       near.decodes.short,
       near.decodes.near,
@@ -239,5 +235,4 @@ pub accepted_symbols : (points : List ℕ) (seen : List (Option ℕ)) (l b : ℕ
     All (λ s. IfSome s is_symbol) seen → l + b ≤ length points → Accepts points seen l b p → All is_symbol p
 accepted_symbols points seen l b p apart at symbols room accepted =
     all_from_each p (coefficients_are_symbols p points seen apart (each_from_all points at)
-    (each_seen seen symbols)
-    (omega (arith, room, accepted.degree, accepted.agrees)))
+    (each_seen seen symbols) (omega (arith, room, accepted.degree, accepted.agrees)))

@@ -32,15 +32,14 @@ pub equal-added : (y w c : ℕ) → nat_eq (nim_add y c) (nim_add w c) ≡ nat_e
 equal-added y w c = go (nat_eq y w) refl
   where
     back : nim_add w c ≡ nim_add y c → w ≡ y
-    back e =
-        cc (
-          e,
-          nim_ring.add_assoc w c c,
-          nim_ring.add_assoc y c c,
-          nim_ring.add_self c,
-          nim_ring.add_zero w,
-          nim_ring.add_zero y,
-        )
+    back e = cc (
+      e,
+      nim_ring.add_assoc w c c,
+      nim_ring.add_assoc y c c,
+      nim_ring.add_self c,
+      nim_ring.add_zero w,
+      nim_ring.add_zero y,
+    )
 
     go : (b : Bool) → nat_eq y w ≡ b → nat_eq (nim_add y c) (nim_add w c) ≡ b
     go true is = ap (λ t. nat_eq (nim_add y c) (nim_add t c)) (sym (eqb-true y w is))

@@ -32,8 +32,7 @@ divided_whole = refl
 -- as values
 step : (x : ℕ) → value (0 ∷ 1 ∷ 0 ∷ 0 ∷ 1 ∷ []) x
     ≡ nim_add (nim_mul (value (1 ∷ 2 ∷ []) x) (value (1 ∷ 1 ∷ 2 ∷ 3 ∷ []) x)) (value (1 ∷ 2 ∷ []) x)
-step x =
-    ap (λ p. value p x) (sym divided_whole) ∙
+step x = ap (λ p. value p x) (sym divided_whole) ∙
     value-plus nim nim_laws (times (1 ∷ 2 ∷ []) (1 ∷ 1 ∷ 2 ∷ 3 ∷ [])) (1 ∷ 2 ∷ []) x ∙
     ap (λ y. nim_add y (value (1 ∷ 2 ∷ []) x)) (value-times nim nim_laws (1 ∷ 2 ∷ []) (1 ∷ 1 ∷ 2 ∷ 3 ∷ []) x)
 
@@ -45,9 +44,7 @@ cofactor = refl
 -- the row
 pub worked_row : FirstRow nim 2 (vanish four) [] (trim (interpolate four word)) (1 ∷ []) (1 ∷ 2 ∷ [])
     (1 ∷ 2 ∷ [])
-worked_row =
-    rw (whole, through)
-    (next {r1 = 1 ∷ 1 ∷ 2 ∷ 3 ∷ []} (1 ∷ 2 ∷ []) (1 ∷ 2 ∷ []) (1 ∷ 2 ∷ [])
+worked_row = rw (whole, through) (next {r1 = 1 ∷ 1 ∷ 2 ∷ 3 ∷ []} (1 ∷ 2 ∷ []) (1 ∷ 2 ∷ []) (1 ∷ 2 ∷ [])
     (omega arith) step (omega arith) (omega arith) cofactor (here {r1 = 1 ∷ 2 ∷ []} (omega arith)))
 
 -- the word agrees with 1 at three places
@@ -88,22 +85,19 @@ divided_line = refl
 
 -- as values
 pub line_divided : (x : ℕ) → value (1 ∷ 2 ∷ []) x ≡ nim_add (nim_mul 2 (value (1 ∷ 1 ∷ []) x)) 3
-line_divided x =
-    ap (λ p. value p x) (sym divided_line) ∙
+line_divided x = ap (λ p. value p x) (sym divided_line) ∙
     value-plus nim nim_laws (times (2 ∷ []) (1 ∷ 1 ∷ [])) (3 ∷ []) x ∙
     cc (value-times nim nim_laws (2 ∷ []) (1 ∷ 1 ∷ []) x, value-constant 2 x, value-constant 3 x)
 
 -- a zero at the end changes no value
 pub line_everywhere : (x : ℕ) → value (1 ∷ 2 ∷ 0 ∷ []) x ≡ value (1 ∷ 2 ∷ []) x
 unfolding value_over
-line_everywhere x =
-    ap (λ z. nim_add 1 (nim_mul x (nim_add 2 (nim_mul x z))))
+line_everywhere x = ap (λ z. nim_add 1 (nim_mul x (nim_add 2 (nim_mul x z))))
     (ap (nim_add 0) (nim_laws.ring.mul_zero x) ∙ nim_laws.ring.add_zero 0)
 
 -- lists of small numbers are symbols
 pub ones_symbols : All is_symbol (1 ∷ 1 ∷ 1 ∷ 1 ∷ 1 ∷ 1 ∷ [])
-ones_symbols =
-    all_from_each (1 ∷ 1 ∷ 1 ∷ 1 ∷ 1 ∷ 1 ∷ [])
+ones_symbols = all_from_each (1 ∷ 1 ∷ 1 ∷ 1 ∷ 1 ∷ 1 ∷ [])
     (omega arith, (omega arith, (omega arith, (omega arith, (omega arith, (omega arith, tt))))))
 
 -- the points
@@ -112,8 +106,7 @@ four_symbols = all_from_each four (omega arith, (omega arith, (omega arith, (ome
 
 -- the symbols seen
 pub word_symbols : All (λ s. IfSome s is_symbol) (Some 1 ∷ Some 1 ∷ Some 1 ∷ Some 2 ∷ [])
-word_symbols =
-    all_from_seen (Some 1 ∷ Some 1 ∷ Some 1 ∷ Some 2 ∷ [])
+word_symbols = all_from_seen (Some 1 ∷ Some 1 ∷ Some 1 ∷ Some 2 ∷ [])
     (omega arith, (omega arith, (omega arith, (omega arith, tt))))
 
 -- 1 is near a block of ones

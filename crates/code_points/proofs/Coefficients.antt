@@ -8,20 +8,17 @@ unfolding vanish_over value_over
 vanish-lt [] x hx small =
     let e : nim_add 1 (nim_mul x 0) ≡ 1 = cc (nim_ring.mul_zero x, nim_ring.add_zero 1) in rw e (omega arith)
 vanish-lt (p ∷ points) x hx small =
-    rw (value-vanish nim nim_laws p points x)
-    (nim_mul-lt 3 (nim_add p x) (value (vanish points) x) (nim_add-lt 3 p x small.0 hx)
-    (vanish-lt points x hx small.1))
+    rw (value-vanish nim nim_laws p points x) (nim_mul-lt 3 (nim_add p x) (value (vanish points) x)
+    (nim_add-lt 3 p x small.0 hx) (vanish-lt points x hx small.1))
 
 -- a coefficient of a place behind the kept ones
 pub coefficient-lt : (keep place k : ℕ) → keep ≤ 256 → place < 256 → k < keep → coefficient keep place k < 256
 coefficient-lt keep place k wide hp hk =
     nim_mul-lt 3 (nim_mul (value (vanish (upto keep)) place) (nim_inv (nim_add place k)))
-    (nim_inv (others_product k (upto keep)))
-    (nim_mul-lt 3 (value (vanish (upto keep)) place) (nim_inv (nim_add place k))
-    (vanish-lt (upto keep) place hp small)
+    (nim_inv (others_product k (upto keep))) (nim_mul-lt 3 (value (vanish (upto keep)) place)
+    (nim_inv (nim_add place k)) (vanish-lt (upto keep) place hp small)
     (nim_inv-lt 3 (nim_add place k) (nim_add-lt 3 place k hp (omega arith))))
-    (nim_inv-lt 3 (others_product k (upto keep))
-    (rw (others_product-bytes k (upto keep) (omega arith) small)
+    (nim_inv-lt 3 (others_product k (upto keep)) (rw (others_product-bytes k (upto keep) (omega arith) small)
     (bytes_product-lt k (upto keep) (omega arith) small)))
   where
     small : Each (λ p. p < 256) (upto keep)

@@ -11,8 +11,7 @@ product_start x place n none = rw none (sym (ap (nim_add 1) (nim_ring.mul_zero x
 pub product_step : (x place end : ℕ) → place < end →
     value (vanish (range_with_len place (end - place))) x
     ≡ nim_mul (nim_add place x) (value (vanish (range_with_len (place + 1) (end - (place + 1)))) x)
-product_step x place end h =
-    ap (λ ps. value (vanish ps) x) (range_with_len-step place end h)
+product_step x place end h = ap (λ ps. value (vanish ps) x) (range_with_len-step place end h)
     ∙ value-vanish nim nim_laws place (range_with_len (place + 1) (end - (place + 1))) x
 
 -- in a row of the table no more symbols are kept than a block has

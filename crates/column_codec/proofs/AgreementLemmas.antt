@@ -23,10 +23,8 @@ pub primary-values : (o : Object) (symbols new : List ℕ) (j : ℕ) → length 
     o.profile.keep ≤ o.profile.size → j < o.shape.l → length new ≡ o.profile.keep →
     new ≡ take o.profile.keep (drop (j * o.profile.keep) symbols) →
     new ≡ map (row_value o symbols j) (upto o.profile.keep)
-primary-values o symbols new j long fits below size is =
-    fill_by_all (row_value o symbols j) new o.profile.keep 0 size
-    (λ place within.
-    ap (λ (xs : List ℕ). get_or xs place 0) is
+primary-values o symbols new j long fits below size is = fill_by_all (row_value o symbols j) new
+    o.profile.keep 0 size (λ place within. ap (λ (xs : List ℕ). get_or xs place 0) is
     ∙ get_or-take o.profile.keep (drop (j * o.profile.keep) symbols) place 0 within
     ∙ get_or-drop (j * o.profile.keep) symbols place 0
     ∙ sym (row-primary o symbols place j long within fits below)

@@ -38,14 +38,12 @@ Apart-skip (x ∷ xs) ys y h = (each xs h.0, Apart-skip xs ys y h.1)
 -- the next point may be left out
 pub Apart-next : (xs points : List ℕ) (at : ℕ) → at < length points → Apart (xs ++ drop at points) →
     Apart (xs ++ drop (at + 1) points)
-Apart-next xs points at lt h =
-    Apart-skip xs (drop (at + 1) points) (get_or points at 0)
+Apart-next xs points at lt h = Apart-skip xs (drop (at + 1) points) (get_or points at 0)
     (subst (λ (ys : List ℕ). Apart (xs ++ ys)) (drop_more points at 0 lt) h)
 
 -- the next point may be chosen
 pub Apart-with : (xs points : List ℕ) (at x : ℕ) → at < length points → x ≡ get_or points at x →
-    Apart (xs ++ drop at points) →
-    Apart (xs ++ x ∷ [] ++ drop (at + 1) points)
+    Apart (xs ++ drop at points) → Apart (xs ++ x ∷ [] ++ drop (at + 1) points)
 Apart-with xs points at x lt read h =
     let is_x : get_or points at 0 ≡ x = sym (get_or_read points at x lt read 0) in
     let rest : drop at points ≡ x ∷ drop (at + 1) points = drop_more points at 0 lt
@@ -54,8 +52,7 @@ Apart-with xs points at x lt read h =
 
 -- the polynomial through the chosen symbols is accepted where it agrees often enough
 pub full_accepts : (points : List ℕ) (seen : List (Option ℕ)) (l b : ℕ) (xs ys : List ℕ) → length xs ≡ l →
-    length ys ≡ length xs →
-    length points ≤ agree (trim (interpolate xs ys)) points seen + b →
+    length ys ≡ length xs → length points ≤ agree (trim (interpolate xs ys)) points seen + b →
     Accepts points seen l b (trim (interpolate xs ys))
 full_accepts points seen l b xs ys hx hy enough =
     record {
@@ -69,8 +66,7 @@ full_accepts points seen l b xs ys hx hy enough =
 
 -- where it agrees too seldom, no accepted polynomial takes the chosen symbols
 pub full_accepts_none : (points : List ℕ) (seen : List (Option ℕ)) (l b at : ℕ) (xs ys : List ℕ) → Apart xs →
-    length xs ≡ l → length ys ≡ length xs →
-    agree (trim (interpolate xs ys)) points seen + b < length points →
+    length xs ≡ l → length ys ≡ length xs → agree (trim (interpolate xs ys)) points seen + b < length points →
     AcceptsNoneFrom points seen l b at (record { points = xs; symbols = ys })
 full_accepts_none points seen l b at xs ys d hx hy few =
     record {
@@ -123,14 +119,12 @@ pub absent_accepts_none : (points : List ℕ) (seen : List (Option ℕ)) (l b at
     AcceptsNoneFrom points seen l b at chosen
 absent_accepts_none points seen l b at chosen d lt even is_none h =
     record {
-      none = λ p accepts takes left.
-          h.none p accepts takes (omega (
-            arith,
-            left,
-            rw (is_seen-none nim (value p (get_or points at 0))) at
-                (agree_step p points seen at None lt (omega arith)
-                (sym is_none ∙ get_or_default seen at d None (omega arith))),
-          ));
+      none = λ p accepts takes left. h.none p accepts takes (omega (
+        arith,
+        left,
+        rw (is_seen-none nim (value p (get_or points at 0))) at (agree_step p points seen at None lt
+            (omega arith) (sym is_none ∙ get_or_default seen at d None (omega arith))),
+      ));
     }
 
 -- one value more is taken
@@ -151,8 +145,7 @@ pub present_accepts_none : (points : List ℕ) (seen : List (Option ℕ)) (l b a
     AcceptsNoneFrom points seen l b at (record { points = xs; symbols = ys })
 present_accepts_none points seen l b at x y xs ys d lt even same read_x is_some chosen skipped =
     record {
-      none = λ p accepts takes left. go p accepts takes left
-          (eqb y (value p (get_or points at 0))) refl;
+      none = λ p accepts takes left. go p accepts takes left (eqb y (value p (get_or points at 0))) refl;
     }
   where
     read_y : Some y ≡ get_or seen at (Some y)
@@ -161,18 +154,15 @@ present_accepts_none points seen l b at x y xs ys d lt even same read_x is_some 
     go : (p : List ℕ) → Accepts points seen l b p → TakesSymbols p xs ys →
         length points ≤ length xs + agree p (drop at points) (drop at seen) + b →
         (t : Bool) → eqb y (value p (get_or points at 0)) ≡ t → ⊥
-    go p accepts takes left t e =
-        split t e (rw (
-          is_seen-some nim (value p (get_or points at 0)) y,
-          e,
-        ) at (agree_step p points seen at (Some y) lt (omega arith) read_y))
+    go p accepts takes left t e = split t e (rw (
+      is_seen-some nim (value p (get_or points at 0)) y,
+      e,
+    ) at (agree_step p points seen at (Some y) lt (omega arith) read_y))
       where
         split : (t : Bool) → eqb y (value p (get_or points at 0)) ≡ t →
             agree p (drop at points) (drop at seen) ≡ cond t 1 0 + agree p (drop (at + 1) points)
             (drop (at + 1) seen) → ⊥
-        split true e step =
-            chosen.none p accepts
-            (Takes-with p xs ys x y same takes
+        split true e step = chosen.none p accepts (Takes-with p xs ys x y same takes
             (cc (eqb-true y (value p (get_or points at 0)) e, get_or_read points at x lt read_x 0)))
             (omega (arith, left, step, length-append xs (x ∷ [])))
         split false e step = skipped.none p accepts takes (omega (arith, left, step))

@@ -14,8 +14,7 @@ length-tabled n l weights tabled are =
 
 -- the same where there are tables
 pub tabled-long : (n l : ℕ) (weights : List (List ℕ)) (tables : Option (List ℕ)) →
-    ForSome tables (λ all. AreTabled n l weights all) →
-    IfSome tables (λ all. length all ≡ (n - l) * (l - 1))
+    ForSome tables (λ all. AreTabled n l weights all) → IfSome tables (λ all. length all ≡ (n - l) * (l - 1))
 tabled-long n l weights None are = tt
 tabled-long n l weights (Some all) are = length-tabled n l weights all (are all refl)
 
@@ -65,8 +64,7 @@ pub kept_whole : (o : Object) (symbols ws : List ℕ) (place x j : ℕ) → leng
     nim_add (get_or symbols place 0)
     (dot ws (differences_at o.shape.l o.profile.keep place symbols (get_or symbols place 0)))
     ≡ row_value o symbols j place
-kept_whole o symbols ws place x j long within fits some are is_point =
-    sum_whole ws symbols o.shape.l o.profile.keep place (get_or symbols place 0)
-    (weights-whole o.shape.l x ws some are)
+kept_whole o symbols ws place x j long within fits some are is_point = sum_whole ws symbols o.shape.l
+    o.profile.keep place (get_or symbols place 0) (weights-whole o.shape.l x ws some are)
     ∙ weighted-row o symbols ws place x long within fits are
     ∙ ap (value (row_polynomial o symbols place)) is_point

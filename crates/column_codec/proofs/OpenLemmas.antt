@@ -13,8 +13,7 @@ bare-primary o j stripe block below =
 
 -- a secondary block of the size without its masks
 pub bare-secondary : (o : Object) (j stripe : ℕ) (block : List ℕ) → o.shape.l ≤ j →
-    length block ≡ o.profile.size →
-    masked o j (stripe * length block) block ≡ bare o j stripe block
+    length block ≡ o.profile.size → masked o j (stripe * length block) block ≡ bare o j stripe block
 bare-secondary o j stripe block above size =
     let is : is_primary o j ≡ false = grind (arith, above) in
     let row : stripe * o.profile.size ≡ stripe * o.profile.size + 0 = omega arith in
@@ -23,8 +22,7 @@ bare-secondary o j stripe block above size =
 
 -- values put at a place of each block
 pub put_here : (out : List ℕ) (f : ℕ → ℕ) (keep place j x : ℕ) → place < keep →
-    j * keep + place < length out → x ≡ f j →
-    ((i : ℕ) → i < j → get_or out (i * keep + place) 0 ≡ f i) →
+    j * keep + place < length out → x ≡ f j → ((i : ℕ) → i < j → get_or out (i * keep + place) 0 ≡ f i) →
     (i : ℕ) → i < j + 1 → get_or (set out (j * keep + place) x) (i * keep + place) 0 ≡ f i
 put_here out f keep place j x within fits e here i below = go (nat_eq i j) refl
   where
@@ -43,8 +41,7 @@ put_here out f keep place j x within fits e here i below = go (nat_eq i j) refl
 -- writing one place of a block leaves those of other places in the row's blocks
 pub put_others : (out : List ℕ) (keep place j x i : ℕ) → place < keep → i % keep ≢ place →
     get_or (set out (j * keep + place) x) i 0 ≡ get_or out i 0
-put_others out keep place j x i within other =
-    get_or-set_other out (j * keep + place) i x 0
+put_others out keep place j x i within other = get_or-set_other out (j * keep + place) i x 0
     (λ h. other (ap (λ n. n % keep) h ∙ mod-mul-add j keep place within))
 
 -- one block more that was opened
@@ -75,8 +72,7 @@ opened_more o stripe seen marks blocks j s b x new in_marks in_blocks at is hold
 
     go : (t : Bool) → nat_eq k j ≡ t →
         OpensTo o k stripe (get_or seen k None) (opened_at (set marks j b) (set blocks j x) k)
-    go true same =
-        subst (λ (n : ℕ). OpensTo o n stripe (get_or seen n None)
+    go true same = subst (λ (n : ℕ). OpensTo o n stripe (get_or seen n None)
         (opened_at (set marks j b) (set blocks j x) n)) (sym (eqb-true k j same)) here
     go false differ =
         let other : k ≡ j → ⊥ = λ h. grind (arith, differ, h) in
@@ -97,8 +93,7 @@ marked_more o stripe seen marks blocks j b x new in_marks in_blocks is holds bef
   where
     here : get_or (set marks j b) j false ≡ true →
         OpensTo o j stripe (get_or seen j None) (Some (get_or (set blocks j x) j []))
-    here mark =
-        subst (λ (t : List ℕ). OpensTo o j stripe (get_or seen j None) (Some t))
+    here mark = subst (λ (t : List ℕ). OpensTo o j stripe (get_or seen j None) (Some t))
         (sym (get_or-set_same blocks j x [] in_blocks ∙ is))
         (OnTrue_at (sym (get_or-set_same marks j b false in_marks) ∙ mark) holds)
 
@@ -117,15 +112,13 @@ marked_more o stripe seen marks blocks j b x new in_marks in_blocks is holds bef
 
 -- all sizes stay
 pub all_sizes : (blocks : List (List ℕ)) (size j : ℕ) (x new : List ℕ) → j < length blocks → x ≡ new →
-    length new ≡ size →
-    ((k : ℕ) → k < length blocks → length (get_or blocks k []) ≡ size) →
-    (k : ℕ) → k < length (set blocks j x) → length (get_or (set blocks j x) k []) ≡ size
+    length new ≡ size → ((k : ℕ) → k < length blocks → length (get_or blocks k []) ≡ size) → (k : ℕ) →
+    k < length (set blocks j x) → length (get_or (set blocks j x) k []) ≡ size
 all_sizes blocks size j x new inside is long each k below = go (nat_eq k j) refl
   where
     go : (t : Bool) → nat_eq k j ≡ t → length (get_or (set blocks j x) k []) ≡ size
     go true same = ap length (get_or-set_at blocks j k x [] (eqb-true k j same) inside ∙ is) ∙ long
-    go false differ =
-        ap length (get_or-set_other blocks j k x [] (λ h. grind (arith, differ, h)))
+    go false differ = ap length (get_or-set_other blocks j k x [] (λ h. grind (arith, differ, h)))
         ∙ each k (omega (arith, below, length-set blocks j x))
 
 -- the blocks one by one are all of them
@@ -154,8 +147,7 @@ AllOpen-each o stripe n seen marks blocks long each =
 -- the points of all providers
 pub all-points : (o : Object) (ps : List ℕ) (n : ℕ) → ArePoints o.shape.n o.shape.l o.master o.id ps →
     n ≡ o.shape.n → o.shape.n ≤ length ps → take n ps ≡ points o
-all-points o ps n are e long =
-    ap (λ m. take m ps) e
+all-points o ps n are e long = ap (λ m. take m ps) e
     ∙ ext_get_or 0 (take o.shape.n ps) (points o) (length-take-le o.shape.n ps long
     ∙ sym (length-map-range_with_len (point o) 0 o.shape.n))
     (λ i below. let within : i < o.shape.n = omega (arith, below, length-take-le o.shape.n ps long) in

@@ -57,16 +57,13 @@ decide points seen l b at zero xs ys count even room apart pairs few = go (nat_e
         inr (few_left points seen l b at (record { points = xs; symbols = ys })
         (omega (arith, less, room, count, length-drop at points)))
 decide points seen l b at (suc left) xs ys count even room apart pairs few =
-    go
-    (λ less y. decide points seen l b (at + 1) left (xs ++ get_or points at 0 ∷ []) (ys ++ y ∷ [])
-    (omega (arith, count)) even room
-    (Apart-with xs points at (get_or points at 0) inside
+    go (λ less y. decide points seen l b (at + 1) left (xs ++ get_or points at 0 ∷ []) (ys ++ y ∷ [])
+    (omega (arith, count)) even room (Apart-with xs points at (get_or points at 0) inside
     (get_or_default points at 0 (get_or points at 0) inside) apart)
     (omega (arith, pairs, length-append xs (get_or points at 0 ∷ []), length-append ys (y ∷ [])))
     (omega (arith, less, length-append xs (get_or points at 0 ∷ []))))
     (decide points seen l b (at + 1) left xs ys (omega (arith, count)) even room
-    (Apart-next xs points at inside apart) pairs few)
-    (nat_eq (length xs) l) refl
+    (Apart-next xs points at inside apart) pairs few) (nat_eq (length xs) l) refl
   where
     inside : at < length points
     inside = omega (arith, count)
@@ -77,9 +74,8 @@ decide points seen l b at (suc left) xs ys count even room apart pairs few =
         (t : Bool) → nat_eq (length xs) l ≡ t → Decided points seen l b at xs ys
     go chosen skipped true same = decide_full points seen l b at xs ys (Apart-front xs (drop at points) apart)
         (eqb-true (length xs) l same) pairs
-    go chosen skipped false differ =
-        decide_place points seen l b at xs ys inside even pairs (chosen (grind (arith, differ, few))) skipped
-        (get_or seen at None) refl
+    go chosen skipped false differ = decide_place points seen l b at xs ys inside even pairs
+        (chosen (grind (arith, differ, few))) skipped (get_or seen at None) refl
 
 -- as many present symbols as symbols
 length-some : (block : List ℕ) → length (map Some block) ≡ length block
@@ -88,12 +84,10 @@ length-some (x ∷ block) = ap suc (length-some block)
 
 -- a block of the size is near to a polynomial, or to none
 decide_block : (profile : Profile) (block : List ℕ) → profile.keep + profile.fix ≤ profile.size →
-    length block ≡ profile.size →
-    ((opened : List ℕ) × Opens profile block opened) ⊎ OpensToNone profile block
-decide_block profile block room whole =
-    go (decide points (map Some block) profile.keep profile.fix 0 (length points) [] [] (omega arith)
-    (omega (arith, many, whole, length-some block)) (omega (arith, many, room))
-    (Apart-range 0 profile.size) refl (omega arith))
+    length block ≡ profile.size → ((opened : List ℕ) × Opens profile block opened) ⊎ OpensToNone profile block
+decide_block profile block room whole = go (decide points (map Some block) profile.keep profile.fix 0
+    (length points) [] [] (omega arith) (omega (arith, many, whole, length-some block))
+    (omega (arith, many, room)) (Apart-range 0 profile.size) refl (omega arith))
   where
     points : List ℕ
     points = upto profile.size

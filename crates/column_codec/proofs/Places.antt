@@ -35,10 +35,8 @@ index_within l keep j place n long below within =
 
 -- one place more of a list that a function makes
 pub filled_more : {X : Type 0} (out : List X) (f : ℕ → X) (i : ℕ) (x : X) → i < length out →
-    take i out ≡ map f (upto i) → x ≡ f i →
-    take (i + 1) (set out i x) ≡ map f (upto (i + 1))
-filled_more {X} out f i x below filled e =
-    take_more_set out i x below
+    take i out ≡ map f (upto i) → x ≡ f i → take (i + 1) (set out i x) ≡ map f (upto (i + 1))
+filled_more {X} out f i x below filled e = take_more_set out i x below
     ∙ ap (λ (l : List X). l ++ x ∷ []) filled
     ∙ ap (λ (y : X). map f (upto i) ++ y ∷ []) e
     ∙ sym (map-range_with_len_more f 0 i i (omega arith))

@@ -27,8 +27,7 @@ get_or-present_blocks size (flag ∷ flags) symbols (suc k) below =
 pub opens-absent : (o : Object) (stripe size : ℕ) (flags : List Bool) (symbols : List ℕ) (k : ℕ) →
     k < length flags → get_or flags k false ≡ false →
     OpensTo o k stripe (get_or (present_blocks size flags symbols) k None) None
-opens-absent o stripe size flags symbols k below is =
-    subst (λ (s : SeenBlock). OpensTo o k stripe s None)
+opens-absent o stripe size flags symbols k below is = subst (λ (s : SeenBlock). OpensTo o k stripe s None)
     (sym (get_or-present_blocks size flags symbols k below
     ∙ ap (λ b. if b then Some (take size (drop (k * size) symbols)) else None) is)) refl
 

@@ -8,26 +8,22 @@ use Rattle.column_defs.proofs.MaskLengths.{length-masked}
 
 -- no point of a secondary provider is that of a primary one
 pub secondary-outside : (o : Object) (ps : List ℕ) → ArePoints o.shape.n o.shape.l o.master o.id ps →
-    o.shape.n ≤ 256 →
-    (j p : ℕ) → o.shape.l ≤ j → j < o.shape.n → p < o.shape.l → get_or ps j 0 ≢ p
-secondary-outside o ps are few j p above below less e =
-    absurd (omega (
-      arith,
-      above,
-      below,
-      less,
-      few,
-      sym (point-low o j (omega (arith, below, few)))
-          ∙ ap (λ n. n % 256) (sym (are j below) ∙ e),
-    ))
+    o.shape.n ≤ 256 → (j p : ℕ) → o.shape.l ≤ j → j < o.shape.n → p < o.shape.l → get_or ps j 0 ≢ p
+secondary-outside o ps are few j p above below less e = absurd (omega (
+  arith,
+  above,
+  below,
+  less,
+  few,
+  sym (point-low o j (omega (arith, below, few)))
+      ∙ ap (λ n. n % 256) (sym (are j below) ∙ e),
+))
 
 -- a list by its places
 listed : (xs : List ℕ) (n : ℕ) → length xs ≡ n → xs ≡ map (λ i. get_or xs i 0) (upto n)
-listed xs n long =
-    ext_get_or 0 xs (map (λ i. get_or xs i 0) (upto n))
-    (long ∙ sym (length-map-range_with_len (λ i. get_or xs i 0) 0 n))
-    (λ i below. sym (get_or-map-range_with_len (λ i. get_or xs i 0) 0 n i i 0 (omega (arith, below, long))
-    (omega arith)))
+listed xs n long = ext_get_or 0 xs (map (λ i. get_or xs i 0) (upto n)) (long ∙
+    sym (length-map-range_with_len (λ i. get_or xs i 0) 0 n)) (λ i below. sym
+    (get_or-map-range_with_len (λ i. get_or xs i 0) 0 n i i 0 (omega (arith, below, long)) (omega arith)))
 
 -- a codeword begins with the kept symbols
 codeword-front : (profile : Profile) (kept : List ℕ) (place : ℕ) → length kept ≡ profile.keep →
@@ -43,19 +39,17 @@ codeword-front profile kept place long within fits =
 pub symbols_at-row : (o : Object) (symbols : List ℕ) (place : ℕ) → length symbols ≡ stripe_symbols o →
     place < o.profile.keep → o.profile.keep ≤ o.profile.size →
     symbols_at o.shape.l o.profile.keep place symbols ≡ primary_row o symbols place
-symbols_at-row o symbols place long within fits =
-    map-range_same (λ j. slice_index symbols (j * o.profile.keep + place))
-    (λ j. slice_index (codeword o.profile (kept_by o symbols j)) place) 0 o.shape.l
-    (λ j below. sym (codeword-front o.profile (kept_by o symbols j) place
+symbols_at-row o symbols place long within fits = map-range_same (λ j. slice_index symbols
+    (j * o.profile.keep + place)) (λ j. slice_index (codeword o.profile (kept_by o symbols j)) place) 0
+    o.shape.l (λ j below. sym (codeword-front o.profile (kept_by o symbols j) place
     (length-kept_by o symbols j long (omega (arith, below))) within fits
     ∙ get_or-take o.profile.keep (drop (j * o.profile.keep) symbols) place 0 within
     ∙ get_or-drop (j * o.profile.keep) symbols place 0))
 
 -- the value of the row's polynomial is their sum by the weights of the point
 pub weighted-row : (o : Object) (symbols weights : List ℕ) (place x : ℕ) → length symbols ≡ stripe_symbols o →
-    place < o.profile.keep → o.profile.keep ≤ o.profile.size →
-    AreWeights o.shape.l x weights → dot weights (symbols_at o.shape.l o.profile.keep place symbols)
-    ≡ value (row_polynomial o symbols place) x
+    place < o.profile.keep → o.profile.keep ≤ o.profile.size → AreWeights o.shape.l x weights →
+    dot weights (symbols_at o.shape.l o.profile.keep place symbols) ≡ value (row_polynomial o symbols place) x
 weighted-row o symbols weights place x long within fits are =
     ap (dot weights) (symbols_at-row o symbols place long within fits)
     ∙ sym (are.gives (primary_row o symbols place)

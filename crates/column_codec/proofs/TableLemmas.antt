@@ -26,8 +26,7 @@ product_at-place c h v small =
 
 -- one half byte more of a product
 pub product_more : (c x h sum rest y : ℕ) → sum ≡ nim_mul c (x % 2 ^ (4 * h)) → rest ≡ x / 2 ^ (4 * h) →
-    y ≡ product_at c (16 * h + rest % 16) →
-    nim_add sum y ≡ nim_mul c (x % 2 ^ (4 * (h + 1)))
+    y ≡ product_at c (16 * h + rest % 16) → nim_add sum y ≡ nim_mul c (x % 2 ^ (4 * (h + 1)))
 product_more c x h sum rest y es er ey =
     let p = 2 ^ (4 * h) in
     let digit = x / p % 16 in

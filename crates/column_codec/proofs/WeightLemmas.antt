@@ -21,8 +21,7 @@ gaps_step x p end h = ap (others_product x) (range_with_len-step p end h)
 
 -- the product of a point's gaps with one to another point is not zero
 pub gaps_not_zero : (x p l : ℕ) → x ≢ p → nim_mul (nim_add x p) (others_product p (upto l)) ≢ 0
-gaps_not_zero x p l differ e =
-    others_product-not_zero p (upto l)
+gaps_not_zero x p l differ e = others_product-not_zero p (upto l)
     (factor_zero nim nim_laws (nim_add x p) (others_product p (upto l)) e (gap_not_zero x p differ))
 
 -- the inverse of a product of gaps
@@ -85,8 +84,7 @@ weights-whole l x ws some are = sym (are.gives (replicate l 1) (length-replicate
     p = interpolate (upto l) (map (λ j. 1) (upto l))
 
     constant : value (interpolate (upto l) (replicate l 1)) x ≡ 1
-    constant =
-        ap (λ (ys : List ℕ). value (interpolate (upto l) ys) x) (ones 0 l)
+    constant = ap (λ (ys : List ℕ). value (interpolate (upto l) ys) x) (ones 0 l)
         ∙ same_values nim nim_laws p (1 ∷ [])
         (plus_zero nim nim_laws (upto l) p (1 ∷ []) (Apart-range 0 l)
         (each_range (λ z. value p z ≡ value (1 ∷ []) z) 0 l
@@ -117,8 +115,7 @@ dot-last : (ws xs : List ℕ) (y : ℕ) → length xs < length ws →
 unfolding dot
 dot-last [] xs y below = absurd (omega (arith, below))
 dot-last (w ∷ ws) [] y below = ap (nim_add (nim_mul w y)) (dot-none ws) ∙ nim_ring.add_comm (nim_mul w y) 0
-dot-last (w ∷ ws) (x ∷ xs) y below =
-    ap (nim_add (nim_mul w x)) (dot-last ws xs y (omega (arith, below)))
+dot-last (w ∷ ws) (x ∷ xs) y below = ap (nim_add (nim_mul w x)) (dot-last ws xs y (omega (arith, below)))
     ∙ sym (nim_ring.add_assoc (nim_mul w x) (dot ws xs) (nim_mul (get_or ws (length xs) 0) y))
 
 -- the sum by all coefficients

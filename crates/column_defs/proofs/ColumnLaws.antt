@@ -7,8 +7,7 @@ use Rattle.code_defs.proofs.Generators.{value-kept}
 -- the polynomial through values at the points 0 to n - 1 takes them
 pub value-interpolate_upto : (f : ℕ → ℕ) (n j : ℕ) → j < n →
     value (interpolate (upto n) (map f (upto n))) j ≡ f j
-value-interpolate_upto f n j below =
-    value-kept n (map f (upto n)) j (length-map-range_with_len f 0 n) below
+value-interpolate_upto f n j below = value-kept n (map f (upto n)) j (length-map-range_with_len f 0 n) below
     ∙ get_or-map-range_with_len f 0 n j j 0 below (omega arith)
 
 -- it has as many coefficients as points
@@ -26,9 +25,8 @@ length-row_polynomial o symbols place =
 -- the row's polynomial at the point of a primary provider is that provider's symbol
 pub value-row_polynomial : (o : Object) (symbols : List ℕ) (place j : ℕ) → j < o.shape.l →
     value (row_polynomial o symbols place) j ≡ slice_index (codeword o.profile (kept_by o symbols j)) place
-value-row_polynomial o symbols place j below =
-    value-interpolate_upto (λ j. slice_index (codeword o.profile (kept_by o symbols j)) place) o.shape.l j
-    below
+value-row_polynomial o symbols place j below = value-interpolate_upto
+    (λ j. slice_index (codeword o.profile (kept_by o symbols j)) place) o.shape.l j below
 
 -- what stands at a place of a list that a function makes of 0 to n - 1
 pub slice_get-upto : (f : ℕ → ℕ) (n place : ℕ) → place < n → slice_get (map f (upto n)) place ≡ Some (f place)

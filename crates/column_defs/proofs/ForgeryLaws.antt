@@ -20,9 +20,8 @@ pub wrong-block : (o : Object) (bytes : List ℕ) (j stripe : ℕ) (held : ℕ �
     stripe < stripes o (length bytes) →
     is_wrong_block o bytes j stripe (held stripe) ≡ true → is_wrong o bytes j held ≡ true
 unfolding is_wrong
-wrong-block o bytes j stripe held below e =
-    any-range (λ s. is_wrong_block o bytes j s (held s)) 0 (stripes o (length bytes)) stripe (omega arith)
-    (omega (arith, below)) e
+wrong-block o bytes j stripe held below e = any-range (λ s. is_wrong_block o bytes j s (held s)) 0
+    (stripes o (length bytes)) stripe (omega arith) (omega (arith, below)) e
 
 -- both of two tests pass
 and-both : (a b c : Bool) → (b ≡ true → c ≡ true) → a && b ≡ true → a && c ≡ true

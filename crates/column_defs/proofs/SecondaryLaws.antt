@@ -27,8 +27,7 @@ value-combine : (ws : List ℕ) (ps : List (List ℕ)) (x : ℕ) →
 unfolding combine dot value_over
 value-combine [] ps x = refl
 value-combine (w ∷ ws) [] x = refl
-value-combine (w ∷ ws) (p ∷ ps) x =
-    value-plus nim nim_laws (scale w p) (combine ws ps) x
+value-combine (w ∷ ws) (p ∷ ps) x = value-plus nim nim_laws (scale w p) (combine ws ps) x
     ∙ (λ i. nim_add (value-scale nim nim_laws w p x i) (value-combine ws ps x i))
 
 length-combine : (ws : List ℕ) (ps : List (List ℕ)) (k : ℕ) → Each (λ p. length p ≤ k) ps →
@@ -36,14 +35,13 @@ length-combine : (ws : List ℕ) (ps : List (List ℕ)) (k : ℕ) → Each (λ p
 unfolding combine
 length-combine [] ps k short = omega arith
 length-combine (w ∷ ws) [] k short = omega arith
-length-combine (w ∷ ws) (p ∷ ps) k short =
-    omega (
-      arith,
-      length-plus nim nim_laws (scale w p) (combine ws ps),
-      length-scale nim nim_laws w p,
-      short.0,
-      length-combine ws ps k short.1,
-    )
+length-combine (w ∷ ws) (p ∷ ps) k short = omega (
+  arith,
+  length-plus nim nim_laws (scale w p) (combine ws ps),
+  length-scale nim nim_laws w p,
+  short.0,
+  length-combine ws ps k short.1,
+)
 
 map-values : (f g : ℕ → ℕ) (xs : List ℕ) → ((x : ℕ) → f x ≡ g x) → map f xs ≡ map g xs
 map-values f g [] h = refl
@@ -104,15 +102,13 @@ module _ (o : Object) (symbols : List ℕ) where
   primary_row-values place a zero below = refl
   primary_row-values place a (suc n) below =
       (λ i. get_or-map-range_with_len (value (interpolate (upto o.profile.keep) (kept_by o symbols a))) 0
-      o.profile.size place place 0 below (omega arith) i
-      ∷ primary_row-values place (a + 1) n below i)
+      o.profile.size place place 0 below (omega arith) i ∷ primary_row-values place (a + 1) n below i)
 
   -- the polynomial of a row at a point has the value of that point's column polynomial at the row's place
   pub value-column_polynomial : (place x : ℕ) → place < o.profile.size → Each (λ p. x ≢ p) (upto o.shape.l) →
       value (row_polynomial o symbols place) x ≡ value (column_polynomial x) place
   unfolding column_polynomial
-  value-column_polynomial place x below out =
-      row-dot place x out
+  value-column_polynomial place x below out = row-dot place x out
       ∙ ap (dot (weights x)) (primary_row-values place 0 o.shape.l below)
       ∙ sym (value-combine (weights x) (map kept_polynomial (upto o.shape.l)) place)
 
@@ -139,15 +135,13 @@ module _ (o : Object) (symbols : List ℕ) where
   pub length-column_polynomial : (x : ℕ) → length symbols ≡ stripe_symbols o →
       length (column_polynomial x) ≤ o.profile.keep
   unfolding column_polynomial
-  length-column_polynomial x long =
-      length-combine (weights x) (map kept_polynomial (upto o.shape.l)) o.profile.keep
-      (kept-short 0 o.shape.l long (omega arith))
+  length-column_polynomial x long = length-combine (weights x) (map kept_polynomial (upto o.shape.l))
+      o.profile.keep (kept-short 0 o.shape.l long (omega arith))
 
 -- the point of a secondary provider is none of the primary ones
 pub point-outside : (o : Object) (j : ℕ) → o.shape.l ≤ j → j < 256 →
     Each (λ p. point o j ≢ p) (upto o.shape.l)
-point-outside o j second below =
-    each_range (λ p. point o j ≢ p) 0 o.shape.l
+point-outside o j second below = each_range (λ p. point o j ≢ p) 0 o.shape.l
     (λ p less e. absurd (omega (arith, less, second, below, sym (point-low o j below) ∙ ap (λ n. n % 256) e)))
 
 -- masks put on at the places of a range
@@ -193,9 +187,8 @@ secondary-column o symbols j stripe is below =
 pub bare-secondary : (o : Object) (symbols : List ℕ) (j stripe : ℕ) → is_primary o j ≡ false → j < 256 →
     bare o j stripe (column_of_symbols o symbols j stripe)
     ≡ values_at (upto o.profile.size) (column_polynomial o symbols (point o j))
-bare-secondary o symbols j stripe is below =
-    ap (λ b. if b then column_of_symbols o symbols j stripe
-    else masked o j (row_number o stripe 0) (column_of_symbols o symbols j stripe)) is
+bare-secondary o symbols j stripe is below = ap (λ b. if b then column_of_symbols o symbols j stripe else
+    masked o j (row_number o stripe 0) (column_of_symbols o symbols j stripe)) is
     ∙ ap (masked o j (row_number o stripe 0)) (secondary-column o symbols j stripe is below)
     ∙ masked-off o j (stripe * o.profile.size) (value (column_polynomial o symbols (point o j))) 0
     o.profile.size
@@ -203,9 +196,8 @@ bare-secondary o symbols j stripe is below =
 bare-primary : (o : Object) (symbols : List ℕ) (j stripe : ℕ) → is_primary o j ≡ true →
     bare o j stripe (column_of_symbols o symbols j stripe) ≡ codeword o.profile (kept_by o symbols j)
 unfolding column_of_symbols
-bare-primary o symbols j stripe is =
-    ap (λ b. if b then column_of_symbols o symbols j stripe
-    else masked o j (row_number o stripe 0) (column_of_symbols o symbols j stripe)) is
+bare-primary o symbols j stripe is = ap (λ b. if b then column_of_symbols o symbols j stripe else masked o j
+    (row_number o stripe 0) (column_of_symbols o symbols j stripe)) is
     ∙ ap (λ b. if b then codeword o.profile (kept_by o symbols j)
     else map (secondary_symbol o symbols j stripe) (upto o.profile.size)) is
 

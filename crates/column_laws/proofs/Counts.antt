@@ -91,8 +91,7 @@ block-symbol place (suc k) (b ∷ bs) = block-symbol place k bs
 pub agree-row : (o : Object) (opened : List SeenBlock) (place : ℕ) (p : List ℕ) →
     agree p (points o) (map (symbol_in place) opened)
     ≡ count_of (is_agreeing o opened place p) (upto o.shape.n)
-agree-row o opened place p =
-    agree-count p (point o) (λ j. symbol_in place (block_at opened j)) 0 o.shape.n
+agree-row o opened place p = agree-count p (point o) (λ j. symbol_in place (block_at opened j)) 0 o.shape.n
     (map (symbol_in place) opened)
     (λ k. ap (λ j. symbol_in place (block_at opened j)) (let e : 0 + k ≡ k = omega arith in e)
     ∙ block-symbol place k opened)

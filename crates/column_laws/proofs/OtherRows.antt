@@ -24,8 +24,7 @@ meets o p q = agree p (points o) (map Some (values_at (points o) q))
 
 -- another polynomial of as few coefficients meets the row's at fewer points than there are primary providers
 few-meets : (o : Object) (symbols : List ℕ) (place : ℕ) (p : List ℕ) → o.shape.n ≤ 256 →
-    length p ≤ o.shape.l →
-    values_at (upto o.shape.l) p ≢ primary_row o symbols place →
+    length p ≤ o.shape.l → values_at (upto o.shape.l) p ≢ primary_row o symbols place →
     meets o p (row_polynomial o symbols place) < o.shape.l
 few-meets o symbols place p size short other =
     go (nat_lt (meets o p (row_polynomial o symbols place)) o.shape.l) refl

@@ -10,9 +10,8 @@ differences-masked : (o : Object) (j row : ℕ) (xs ys : List ℕ) →
     differences (masked o j row xs) (masked o j row ys) ≡ differences xs ys
 differences-masked o j row [] ys = refl
 differences-masked o j row (x ∷ xs) [] = refl
-differences-masked o j row (x ∷ xs) (y ∷ ys) =
-    (λ i. if equal-added x y (mask o.master o.id j row) i then differences-masked o j (row + 1) xs ys i
-    else suc (differences-masked o j (row + 1) xs ys i))
+differences-masked o j row (x ∷ xs) (y ∷ ys) = (λ i. if equal-added x y (mask o.master o.id j row) i then
+    differences-masked o j (row + 1) xs ys i else suc (differences-masked o j (row + 1) xs ys i))
 
 differences-bare : (o : Object) (j stripe : ℕ) (xs ys : List ℕ) →
     differences (bare o j stripe xs) (bare o j stripe ys) ≡ differences xs ys
@@ -79,26 +78,22 @@ bare-symbol o symbols j stripe place below within = go (is_primary o j) refl
     go : (b : Bool) → is_primary o j ≡ b →
         slice_get (bare o j stripe (column_of_symbols o symbols j stripe)) place
         ≡ Some (value (row_polynomial o symbols place) (point o j))
-    go true is =
-        ap (λ b. slice_get (if b then column_of_symbols o symbols j stripe
-        else masked o j (row_number o stripe 0) (column_of_symbols o symbols j stripe)) place) is
+    go true is = ap (λ b. slice_get (if b then column_of_symbols o symbols j stripe else masked o j
+        (row_number o stripe 0) (column_of_symbols o symbols j stripe)) place) is
         ∙ primary-symbol o symbols j stripe place is within
         ∙ ap (λ b. Some (value (row_polynomial o symbols place)
         (if b then j else secret_point o.master o.id j))) (sym is)
-    go false is =
-        ap (λ word. slice_get word place) (bare-secondary o symbols j stripe is below)
+    go false is = ap (λ word. slice_get word place) (bare-secondary o symbols j stripe is below)
         ∙ slice_get-upto (value (column_polynomial o symbols (point o j))) o.profile.size place within
         ∙ ap Some (sym (value-column_polynomial o symbols place (point o j) within
         (point-outside o j (grind (arith, is)) below)))
 
 -- each symbol of a block that is not wrong opens to its row's polynomial at the provider's point
 pub symbol-right : (o : Object) (bytes : List ℕ) (number j stripe place : ℕ) (seen opened : SeenBlock) →
-    o.profile ≡ profile_of number →
-    j < 256 → is_wrong_block o bytes j stripe seen ≡ false → OpensTo o j stripe seen opened →
-    place < o.profile.size →
+    o.profile ≡ profile_of number → j < 256 → is_wrong_block o bytes j stripe seen ≡ false →
+    OpensTo o j stripe seen opened → place < o.profile.size →
     symbol_in place opened ≡ Some (value (row_polynomial o (symbols_in o bytes stripe) place) (point o j))
-symbol-right o bytes number j stripe place seen opened is below right opens within =
-    ap (symbol_in place) (opens-unique o number j stripe seen opened
-    (Some (bare o j stripe (columns o bytes j stripe))) is opens
+symbol-right o bytes number j stripe place seen opened is below right opens within = ap (symbol_in place)
+    (opens-unique o number j stripe seen opened (Some (bare o j stripe (columns o bytes j stripe))) is opens
     (opens-right o bytes j stripe seen below right))
     ∙ bare-symbol o (symbols_in o bytes stripe) j stripe place below within

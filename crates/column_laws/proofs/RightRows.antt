@@ -26,8 +26,7 @@ symbol-at o bytes number stripe place j seen opened is all within below right =
 
 -- where at most b blocks of a stripe are wrong, each row is accepted with the file's own polynomial
 pub row-right : (o : Object) (bytes : List ℕ) (number stripe place : ℕ) (seen opened : List SeenBlock) →
-    o.profile ≡ profile_of number →
-    IsShape o.shape.n o.shape.l o.shape.b →
+    o.profile ≡ profile_of number → IsShape o.shape.n o.shape.l o.shape.b →
     count_of (λ j. is_wrong_block o bytes j stripe (block_at seen j)) (upto o.shape.n) ≤ o.shape.b →
     AllOpen o stripe 0 seen opened → place < o.profile.size →
     AcceptsRow o opened place (row_polynomial o (symbols_in o bytes stripe) place)
@@ -90,9 +89,8 @@ pub symbols-right : (o : Object) (bytes : List ℕ) (number stripe : ℕ) (seen 
     IsShape o.shape.n o.shape.l o.shape.b →
     count_of (λ j. is_wrong_block o bytes j stripe (block_at seen j)) (upto o.shape.n) ≤ o.shape.b →
     GivesSymbols o stripe seen symbols → symbols ≡ symbols_in o bytes stripe
-symbols-right o bytes number stripe seen symbols is shape few given =
-    fill_by_all of symbols (stripe_symbols o) 0 given.size
-    (λ i below. at i (place-of o.shape.l o.profile.keep i below))
+symbols-right o bytes number stripe seen symbols is shape few given = fill_by_all of symbols
+    (stripe_symbols o) 0 given.size (λ i below. at i (place-of o.shape.l o.profile.keep i below))
   where
     of : ℕ → ℕ
     of i = symbol_of bytes (stripe * stripe_symbols o + i)
@@ -113,8 +111,7 @@ symbols-right o bytes number stripe seen symbols is shape few given =
 
 -- where few blocks are wrong, what opens gives the file's symbols
 pub given-right : (o : Object) (bytes : List ℕ) (number stripe : ℕ) (seen opened : List SeenBlock) →
-    o.profile ≡ profile_of number →
-    IsShape o.shape.n o.shape.l o.shape.b →
+    o.profile ≡ profile_of number → IsShape o.shape.n o.shape.l o.shape.b →
     count_of (λ j. is_wrong_block o bytes j stripe (block_at seen j)) (upto o.shape.n) ≤ o.shape.b →
     AllOpen o stripe 0 seen opened → GivesSymbols o stripe seen (symbols_in o bytes stripe)
 given-right o bytes number stripe seen opened is shape few all = record {

@@ -22,19 +22,15 @@ present-front (suc n) (Some s ∷ ss) = omega (arith, present-front n ss)
 
 -- two polynomials of few coefficients that agree with the symbols often enough have one value everywhere
 pub often_same : (p q xs : List ℕ) (ss : List (Option ℕ)) (keep : ℕ) → Apart xs → length p ≤ keep →
-    length q ≤ keep →
-    length xs + keep ≤ agree p xs ss + agree q xs ss → (x : ℕ) → value p x ≡ value q x
+    length q ≤ keep → length xs + keep ≤ agree p xs ss + agree q xs ss → (x : ℕ) → value p x ≡ value q x
 often_same p q xs ss keep apart short_p short_q often =
-    same_values nim nim_laws p q
-    (unique nim nim_laws p q xs (take (length xs) ss) keep apart short_p short_q
+    same_values nim nim_laws p q (unique nim nim_laws p q xs (take (length xs) ss) keep apart short_p short_q
     (omega (arith, often, agree-front p xs ss, agree-front q xs ss, present-front (length xs) ss)))
 
 -- as where each agrees at all but few places
 near_same : (p q xs : List ℕ) (ss : List (Option ℕ)) (keep wrong : ℕ) → Apart xs →
-    keep + 2 * wrong ≤ length xs →
-    length p ≤ keep → length xs ≤ agree p xs ss + wrong → length q ≤ keep →
-    length xs ≤ agree q xs ss + wrong →
-    (x : ℕ) → value p x ≡ value q x
+    keep + 2 * wrong ≤ length xs → length p ≤ keep → length xs ≤ agree p xs ss + wrong → length q ≤ keep →
+    length xs ≤ agree q xs ss + wrong → (x : ℕ) → value p x ≡ value q x
 near_same p q xs ss keep wrong apart room short_p near_p short_q near_q =
     often_same p q xs ss keep apart short_p short_q (omega (arith, room, near_p, near_q))
 
@@ -69,8 +65,7 @@ opens-unique o number j stripe (Some block) (Some xs) (Some ys) is ha hb =
 pub accepted-unique : (o : Object) (opened : List SeenBlock) (place : ℕ) (p q : List ℕ) →
     IsShape o.shape.n o.shape.l o.shape.b →
     AcceptsRow o opened place p → AcceptsRow o opened place q → (x : ℕ) → value p x ≡ value q x
-accepted-unique o opened place p q shape hp hq =
-    near_same p q (points o) (map (symbol_in place) opened) o.shape.l o.shape.b
-    (Apart-points o (omega (arith, shape.1)))
+accepted-unique o opened place p q shape hp hq = near_same p q (points o) (map (symbol_in place) opened)
+    o.shape.l o.shape.b (Apart-points o (omega (arith, shape.1)))
     (omega (arith, shape.4, length-map-range_with_len (point o) 0 o.shape.n)) hp.degree hp.agrees hq.degree
     hq.agrees

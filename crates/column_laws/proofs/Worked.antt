@@ -7,8 +7,7 @@ use Rattle.column_laws.proofs.OtherRows.{values-row}
 -- a provider's own block is not wrong
 pub column-right : (o : Object) (bytes : List ℕ) (j stripe : ℕ) →
     is_wrong_block o bytes j stripe (Some (columns o bytes j stripe)) ≡ false
-column-right o bytes j stripe =
-    ap (λ n. not (n == o.profile.size) || nat_lt o.profile.fix
+column-right o bytes j stripe = ap (λ n. not (n == o.profile.size) || nat_lt o.profile.fix
     (differences (columns o bytes j stripe) (columns o bytes j stripe)))
     (length-column_of_symbols o (symbols_in o bytes stripe) j stripe)
     ∙ ap (λ d. not (o.profile.size == o.profile.size) || nat_lt o.profile.fix d)
@@ -44,18 +43,16 @@ example-shape = (omega arith, omega arith, omega arith, omega arith, omega arith
 pub three-accepted : (master bytes : List ℕ) →
     AcceptsRow (example master) (three_opened (example master) bytes) 0
     (row_polynomial (example master) (symbols_in (example master) bytes 0) 0)
-three-accepted master bytes =
-    row-right (example master) bytes 0 0 0 (three_seen (example master) bytes)
-    (three_opened (example master) bytes) refl example-shape
-    (omega (arith, one-wrong (example master) bytes)) (three-open (example master) bytes) (omega arith)
+three-accepted master bytes = row-right (example master) bytes 0 0 0 (three_seen (example master) bytes)
+    (three_opened (example master) bytes) refl example-shape (omega (arith, one-wrong (example master) bytes))
+    (three-open (example master) bytes) (omega arith)
 
 -- they give the symbols
 pub three-give : (master bytes : List ℕ) →
     GivesSymbols (example master) 0 (three_seen (example master) bytes) (symbols_in (example master) bytes 0)
-three-give master bytes =
-    given-right (example master) bytes 0 0 (three_seen (example master) bytes)
-    (three_opened (example master) bytes) refl example-shape
-    (omega (arith, one-wrong (example master) bytes)) (three-open (example master) bytes)
+three-give master bytes = given-right (example master) bytes 0 0 (three_seen (example master) bytes)
+    (three_opened (example master) bytes) refl example-shape (omega (arith, one-wrong (example master) bytes))
+    (three-open (example master) bytes)
 
 -- no block, and no symbol that agrees
 agree-absent : (p : List ℕ) (a b c d : ℕ) → agree p (a ∷ b ∷ c ∷ d ∷ []) (None ∷ None ∷ None ∷ None ∷ []) ≡ 0
@@ -78,8 +75,7 @@ none-lose master = record {
     never p a = omega (
       arith,
       a.agrees,
-      agree-absent p 0 (point (example master) 1) (point (example master) 2)
-          (point (example master) 3),
+      agree-absent p 0 (point (example master) 1) (point (example master) 2) (point (example master) 3),
     )
 
 -- the first symbols of two files

@@ -1,5 +1,5 @@
 -- What a step of the only job of a state does: it makes an action, and what is in the journal or in flight grows.
-use Rattle.command_jobs.proofs.Words.{◌≡◌, ℕ, ◌+◌, ◌≤◌, ◌⊎◌, List, [], ◌∷◌, Option, Some, None, refl, ap, subst, ◌∙◌, inl, inr, arith, cases_Bool, some-not-none, Record, Area, end_in, Kind, job_of, Action, WriteBody, SyncBody, WriteGate, SyncGate, Store, Fetch, Ask, Work, Remove, End, Step, More, Outcome, State, Append, Alone, Moves, next_action, holder_of, ActsOrWaits, StepsOn, StepsJob, StepsOne, StepsOpen, Steps, Happens, cond_true, cond_false, same_value, moves_before, holder, IsOpenAtRest, WalkedAt, found, none-alone, records_in_flight}
+use Rattle.command_jobs.proofs.Words.{◌≡◌, ℕ, ◌+◌, ◌≤◌, ◌⊎◌, List, [], ◌∷◌, Option, Some, None, refl, ap, subst, ◌∙◌, inl, inr, arith, cases_Bool, some-not-none, Record, Area, end_in, Kind, job_of, Action, WriteBody, SyncBody, WriteGate, SyncGate, Store, Fetch, Ask, Work, Remove, End, Step, More, Outcome, State, Append, Moves, next_action, holder_of, ActsOrWaits, StepsOn, StepsJob, StepsOne, StepsOpen, Steps, Happens, cond_true, cond_false, same_value, moves_before, holder, IsOpenAtRest, WalkedAt, found, none-alone, records_in_flight}
 use Rattle.std.proofs.Common.{◌==◌}
 use Rattle.machine_defs.specs.Jobs.{Job}
 use Rattle.machine_defs.specs.Answers as answer
@@ -78,8 +78,7 @@ Grows w new = flight_end w.area w.journal w.append ≤ flight_end new.area new.j
 sizes-grow : (w new : State) (old now : Option Append) (rs : List Record) → w.append ≡ old →
     new.append ≡ now → new.area ≡ w.area → new.journal ≡ rs →
     flight_end w.area w.journal old ≤ flight_end w.area rs now → Grows w new
-sizes-grow w new old now rs a b area journal h =
-    (let e = ap (flight_end w.area w.journal) a in
+sizes-grow w new old now rs a b area journal h = (let e = ap (flight_end w.area w.journal) a in
     let f : flight_end new.area new.journal new.append ≡ flight_end w.area rs now =
     λ i. flight_end (area i) (journal i) (b i) in
     omega (arith, e, f, h))
@@ -91,39 +90,31 @@ moves-grow : (w : State) (job : Job) (action : Action) (flight : Option Append) 
     w.append ≡ flight → holder_of flight action ≡ None → Moves w job action flight More new → Grows w new
 moves-grow w job WriteBody None new flight free (entry, writes, (faults, low, is)) =
     sizes-grow w new None (Some (record { job = job.number; entry = entry; moves = 1 })) w.journal flight
-    (ap (λ (v : State). v.append) is) (ap (λ (v : State). v.area) is) (ap (λ (v : State). v.journal) is)
-    (omega arith)
+    (ap (λ v. v.append) is) (ap (λ v. v.area) is) (ap (λ v. v.journal) is) (omega arith)
 moves-grow w job WriteBody (Some a) new flight free h = absurd (some-not-none (Some a.job) a.job refl free)
 moves-grow w job SyncBody (Some a) new flight free (at, (faults, low, is)) =
     sizes-grow w new (Some a) (Some (record a { moves = a.moves + 1 })) w.journal flight
-    (ap (λ (v : State). v.append) is) (ap (λ (v : State). v.area) is) (ap (λ (v : State). v.journal) is)
-    (omega arith)
+    (ap (λ v. v.append) is) (ap (λ v. v.area) is) (ap (λ v. v.journal) is) (omega arith)
 moves-grow w job WriteGate (Some a) new flight free (at, (faults, low, is)) =
     sizes-grow w new (Some a) (Some (record a { moves = a.moves + 1 })) w.journal flight
-    (ap (λ (v : State). v.append) is) (ap (λ (v : State). v.area) is) (ap (λ (v : State). v.journal) is)
-    (omega arith)
+    (ap (λ v. v.append) is) (ap (λ v. v.area) is) (ap (λ v. v.journal) is) (omega arith)
 moves-grow w job SyncGate (Some a) new flight free (at, (faults, low, is)) =
-    sizes-grow w new (Some a) None (a.entry ∷ w.journal) flight (ap (λ (v : State). v.append) is)
-    (ap (λ (v : State). v.area) is) (ap (λ (v : State). v.journal) is) (omega arith)
+    sizes-grow w new (Some a) None (a.entry ∷ w.journal) flight (ap (λ v. v.append) is)
+    (ap (λ v. v.area) is) (ap (λ v. v.journal) is) (omega arith)
 moves-grow w job action flight new e free h = absurd h
 
 acts-grow : (w : State) (job : Job) (action : Action) (new : State) → holder_of w.append action ≡ None →
     Acts w job action More new → Grows w new
-acts-grow w job (Store j object stripe) new free (p, call, is) =
-    same-size w new (ap (λ (v : State). v.append) is) (ap (λ (v : State). v.area) is)
-    (ap (λ (v : State). v.journal) is)
-acts-grow w job (Fetch j object stripe) new free (block, (p, call, is)) =
-    same-size w new (ap (λ (v : State). v.append) is) (ap (λ (v : State). v.area) is)
-    (ap (λ (v : State). v.journal) is)
-acts-grow w job (Ask j object round) new free (symbol, (p, call, is)) =
-    same-size w new (ap (λ (v : State). v.append) is) (ap (λ (v : State). v.area) is)
-    (ap (λ (v : State). v.journal) is)
-acts-grow w job (Work object stripe) new free (symbols, gives, is) =
-    same-size w new (ap (λ (v : State). v.append) is) (ap (λ (v : State). v.area) is)
-    (ap (λ (v : State). v.journal) is)
-acts-grow w job (Remove j object) new free (p, call, is) =
-    same-size w new (ap (λ (v : State). v.append) is) (ap (λ (v : State). v.area) is)
-    (ap (λ (v : State). v.journal) is)
+acts-grow w job (Store j object stripe) new free (p, call, is) = same-size w new
+    (ap (λ (v : State). v.append) is) (ap (λ (v : State). v.area) is) (ap (λ (v : State). v.journal) is)
+acts-grow w job (Fetch j object stripe) new free (block, (p, call, is)) = same-size w new
+    (ap (λ (v : State). v.append) is) (ap (λ (v : State). v.area) is) (ap (λ (v : State). v.journal) is)
+acts-grow w job (Ask j object round) new free (symbol, (p, call, is)) = same-size w new
+    (ap (λ (v : State). v.append) is) (ap (λ (v : State). v.area) is) (ap (λ (v : State). v.journal) is)
+acts-grow w job (Work object stripe) new free (symbols, gives, is) = same-size w new
+    (ap (λ (v : State). v.append) is) (ap (λ (v : State). v.area) is) (ap (λ (v : State). v.journal) is)
+acts-grow w job (Remove j object) new free (p, call, is) = same-size w new (ap (λ (v : State). v.append) is)
+    (ap (λ (v : State). v.area) is) (ap (λ (v : State). v.journal) is)
 acts-grow w job action new free h = moves-grow w job action w.append new refl free h
 
 -- ---- the only job
@@ -133,8 +124,7 @@ module _ (start : State) (O : IsOpenAtRest start 1) (kind : Kind) {profile : ℕ
   -- with an append in flight the next action is a later move of it
   in-flight : (a : Append) (action : Action) → w.append ≡ Some a → next_action w job ≡ Some action →
       1 ≤ moves_before action
-  in-flight a action flight next =
-      (let h = holder 8 w W.sound a flight in
+  in-flight a action flight next = (let h = holder 8 w W.sound a flight in
       let begun = (W.sound.append a flight).begun in
       let same : h.0 ≡ job = one-found job h.0 a.job (subst (λ js. job_of js a.job ≡ Some h.0) W.jobs h.1) in
       let comes : next_action w job ≡ Some h.2.0 = subst
@@ -157,31 +147,20 @@ module _ (start : State) (O : IsOpenAtRest start 1) (kind : Kind) {profile : ℕ
     where
       by_flight : (o : Option Append) → w.append ≡ o → (action : Action) → next_action w job ≡ Some action →
           holder_of o action ≡ None
-      by_flight None f action next = refl
-      by_flight (Some a) f WriteBody next = absurd (let l = in-flight a WriteBody f next in omega (arith, l))
-      by_flight (Some a) f SyncBody next = refl
-      by_flight (Some a) f WriteGate next = refl
-      by_flight (Some a) f SyncGate next = refl
-      by_flight (Some a) f (Store j object stripe) next = refl
-      by_flight (Some a) f (Fetch j object stripe) next = refl
-      by_flight (Some a) f (Ask j object round) next = refl
-      by_flight (Some a) f (Work object stripe) next = refl
-      by_flight (Some a) f (Remove j object) next = refl
-      by_flight (Some a) f End next = refl
+      by_flight (Some a) f WriteBody next = absurd (omega (arith, in-flight a WriteBody f next))
+      by_flight _ f _ next = refl
 
   -- a step makes the next action
   pub step-makes : (r : Outcome) (new : State) → Steps w 1 w.is_open r new →
       (action : Action) × (next_action w job ≡ Some action) × Acts w job action r new
-  step-makes r new h =
-      on (next_action w job) refl (subst (λ (o : Option Job). StepsJob w o r new) (found start O kind w job W)
-      (subst (λ (o : Option Alone). StepsOne w 1 o r new) (none-alone start O kind w job W)
+  step-makes r new h = on (next_action w job) refl (subst (λ o. StepsJob w o r new)
+      (found start O kind w job W) (subst (λ o. StepsOne w 1 o r new) (none-alone start O kind w job W)
       (subst (λ b. StepsOpen w 1 b r new) W.unbarred (subst (λ b. Steps w 1 b r new) W.opened h))))
     where
       on : (o : Option Action) → next_action w job ≡ o → StepsOn w job o r new →
           (action : Action) × (next_action w job ≡ Some action) × Acts w job action r new
       on None e h = absurd h
-      on (Some action) e h =
-          (action, e, subst (λ (o : Option ℕ). ActsOrWaits w job action o r new) (free action e) h)
+      on (Some action) e h = (action, e, subst (λ o. ActsOrWaits w job action o r new) (free action e) h)
 
   -- it goes on, or ends the job
   pub step-turn : (moment : ℕ) (r : Outcome) (new : State) → Happens 8 moment w (Step 1) r new →
@@ -197,8 +176,7 @@ module _ (start : State) (O : IsOpenAtRest start 1) (kind : Kind) {profile : ℕ
   pub step-ends : (moment : ℕ) (how : Answer) (new : State) → (how ≡ answer.DiskFault → ⊥) →
       (how ≡ answer.Memory → ⊥) → Happens 8 moment w (Step 1) (Ended how) new →
       (w.append ≡ None) × (new.append ≡ None) × (new.records ≡ w.records)
-  step-ends moment how new d m h =
-      (let a = step-makes (Ended how) new h in
+  step-ends moment how new d m h = (let a = step-makes (Ended how) new h in
       let e = acts-end w job a.0 how new d m a.2 in
       let f = none-flies a.0 a.1 e.0 in
       (f, e.1 ∙ f, e.2))

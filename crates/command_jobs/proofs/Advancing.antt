@@ -1,5 +1,5 @@
 -- The only job of a vault that goes on, and where it is an open stream, up to where it waits.
-use Rattle.command_jobs.proofs.Words.{◌≡◌, ℕ, ◌+◌, ◌*◌, ◌≤◌, length, Option, Some, None, sym, subst, ◌∙◌, inl, inr, arith, cases_lt, IfSome, Goes, Kind, now, State, setup_in, base_of, Vault, MakesStep, wants_of, told_of, KeepsTold, Devices, SameUpTo, OnWay, IsBehind, IsEarly, EndsEarly}
+use Rattle.command_jobs.proofs.Words.{◌≡◌, ℕ, ◌+◌, ◌*◌, ◌≤◌, length, Option, Some, None, subst, ◌∙◌, inl, inr, arith, cases_lt, IfSome, Goes, Kind, now, State, setup_in, base_of, Vault, MakesStep, wants_of, told_of, KeepsTold, Devices, SameUpTo, OnWay, IsBehind, IsEarly, EndsEarly}
 use Rattle.vault.specs.declared.turn.Ended.{Ended}
 use Rattle.vault.specs.declared.turn.Turn.TheVariants as turn
 use Rattle.command_jobs.proofs.Goings.{one-more, one-further, at-end, end-steps}
@@ -18,20 +18,18 @@ module _ (start : State) (kind : Kind) (own : Option ℕ) (w : State) (moment nu
   told-one : told_of v 1 ≡ told
   told-one = subst (λ n. told_of v n ≡ told) first told_is
 
-  none-one : wants_of v 1 ≡ None
-  none-one = subst (λ n. wants_of v n ≡ None) first none
-
   -- it does not wait, so it is not yet there
   early : (told : Option ℕ) → told_of v 1 ≡ told → IsBehind start told here.way.only.job.place →
       IfSome told (λ stripes. here.way.only.job.place + 1 ≤ 4 + stripes * (setup_in start).n)
   early None is h = tt
   early (Some stripes) is h = less here.way.only.job.place (4 + stripes * (setup_in start).n) h
-      (goes-on start kind own (now w here.way.steps) v e here.way.only here.way.stands stripes is none-one)
+      (goes-on start kind own (now w here.way.steps) v e here.way.only here.way.stands stripes is
+      (rw first at none))
     where
       less : (a b : ℕ) → a ≤ b → (a ≡ b → ⊥) → a + 1 ≤ b
       less a b l n = elim (cases_lt a b) [
-        | inl s ↦ (let t = s in omega (arith, t))
-        | inr s ↦ absurd (n (let t = s in omega (arith, l, t)))
+        | inl s ↦ (omega (arith, s))
+        | inr s ↦ absurd (n (omega (arith, l, s)))
       ]
 
   its-early : IsBehind start told before →
@@ -45,10 +43,7 @@ module _ (start : State) (kind : Kind) (own : Option ℕ) (w : State) (moment nu
     way = one-more start kind own w moment number first v next d e f here.way front M
 
     pub still-behind : StillBehind start kind own w moment told before next d f
-    still-behind = record {
-      way = way;
-      behind = λ b. by told (its-early b);
-    }
+    still-behind = record { way = way; behind = λ b. by told (its-early b) }
       where
         by : (told : Option ℕ) →
             IfSome told (λ stripes. here.way.only.job.place + 1 ≤ 4 + stripes * (setup_in start).n) →
@@ -58,8 +53,7 @@ module _ (start : State) (kind : Kind) (own : Option ℕ) (w : State) (moment nu
             omega (arith, p, h))
 
     pub still-told : KeepsTold v next number → told_of next number ≡ told
-    still-told keeps = subst (λ n. told_of next n ≡ told) (sym first)
-        (told-kept start kind own (now w way.steps) next f way.only way.stands v
+    still-told keeps = rw (← first) at (told-kept start kind own (now w way.steps) next f way.only way.stands v
         (subst (λ n. KeepsTold v next n) first keeps) ∙ told-one)
 
   -- a step that ends it
@@ -68,8 +62,7 @@ module _ (start : State) (kind : Kind) (own : Option ℕ) (w : State) (moment nu
     pub ends-early : IsBehind start told before → EndsEarly start kind own w moment told ended next d f
     ends-early b = record {
       to_end = at-end start kind own w moment number first v next d e f here.way ended front M;
-      early = subst (λ steps. IsEarly start w (length steps) told)
-          (sym (end-steps start kind own w moment number first v next d e f here.way ended front M))
+      early = rw (← (end-steps start kind own w moment number first v next d e f here.way ended front M)) at
           (by told (its-early b));
     }
       where
@@ -77,4 +70,4 @@ module _ (start : State) (kind : Kind) (own : Option ℕ) (w : State) (moment nu
             IfSome told (λ stripes. here.way.only.job.place + 1 ≤ 4 + stripes * (setup_in start).n) →
             IsEarly start w (length here.way.steps) told
         by None h = tt
-        by (Some stripes) h = λ begun is. (let p = here.way.place begun is in omega (arith, p, h))
+        by (Some stripes) h = λ begun is. (omega (arith, here.way.place begun is, h))

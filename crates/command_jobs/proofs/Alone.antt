@@ -1,6 +1,5 @@
 -- From the begin and the steps of a job to what its command tells of it.
 use Rattle.command_jobs.proofs.Words.{◌≡◌, ℕ, ◌+◌, ◌*◌, ◌<◌, ◌≤◌, List, [], length, replicate, take, drop, Option, Some, None, Ok, Err, refl, ap, sym, subst, ◌∙◌, inl, inr, arith, IfSome, option_map, mul-le-mul_right, length-replicate, Cells, reads, Provider, Record, Area, base_of, end_in, Kind, PutJob, job_of, profiled, stripes_of, Step, IsSpelledKind, chosen, beginning, Entry, heard_by, Happens, Moment, now, State, setup_in, StandsForState, Seen, nobody, setup_in_effect, AreHanded, IsOpenAtRest, IsJustOpened, AreSteps, outside, with_next, SameAround, SameOutside, LeavesBy, RanAlone, RunsAlone, LeftAlone, MayHaveEnd, ran_alone, MayName, WalkedAt, walk-begin, found, BeginFault, refusal_of, Vault, Devices, devices, machine_answer, Stands, MakesBegin, IsFreshOver, IsOnly, IsUnderWay, IsEarly, EndsEarly, IsSeenBefore, IsSeenAfter, IsRefusedOver, EndsOver, refusal-of, WalkedOn, walk-on}
-use Rattle.record_defs.specs.Records.{Setup}
 use Rattle.machine_defs.specs.Jobs.{Job}
 use Rattle.machine_defs.specs.Answers as answer
 use Rattle.machine_defs.specs.Answers.{Answer}
@@ -88,8 +87,7 @@ pub record HasBegun (w : State) (moment : ℕ) (kind : Kind) (own : Option ℕ) 
 
 pub has-begun : (w : State) (moment : ℕ) (kind : Kind) (own : Option ℕ) (number : ℕ) (old new : Vault)
     (d : Devices) → MayName kind own → IsOpenAtRest w 1 → Stands old d w → BeginsAs old kind own number new → HasBegun w moment kind own number new d
-has-begun w moment kind own number old new d named O stands begins =
-    (let M = begins w d moment stands in
+has-begun w moment kind own number old new d named O stands begins = (let M = begins w d moment stands in
     let s = spelled-begun w M.state moment kind own number O.rest.idle.0 M.begins M.stands.desk.core.sound in
     let b = walk-begin moment number w M.state kind own named O s M.begins in
     record {
@@ -121,16 +119,14 @@ module _ (there : ThereIsOne) (v : Vault) (area : Area) (records : List Record) 
 
   pub opened-one : (providers : List Provider) → (setup_in_effect records).n ≤ length providers →
       (w : State) × Opened providers w
-  opened-one providers enough =
-      (let x = there-opened there area records faults providers F.read enough in
+  opened-one providers enough = (let x = there-opened there area records faults providers F.read enough in
       (x.0, record { over = x.1; stands = F.stands x.0 providers x.1 }))
 
   -- the one job that was begun has number 1 and is under way
   pub under-way : (next : Vault) (kind : Kind) (own : Option ℕ) (number : ℕ) (providers : List Provider) →
       MayName kind own → (setup_in_effect records).n ≤ length providers → BeginsAs v kind own number next →
       (number ≡ 1) × IsUnderWay next (devices holds faults providers)
-  under-way next kind own number providers named enough begins =
-      (let x = opened-one providers enough in
+  under-way next kind own number providers named enough begins = (let x = opened-one providers enough in
       let h = has-begun x.0 1 kind own number v next (devices holds faults providers) named x.1.over.at_rest
       x.1.stands begins in (
         h.first,
@@ -151,31 +147,15 @@ module _ (there : ThereIsOne) (v : Vault) (area : Area) (records : List Record) 
   over-journal w providers kind own J = λ i. commands.refusal_over (J.area_is i) (J.journal i) kind own
 
   memory-is : (why : BeginFault) → refusal_of why ≡ refusal.Memory → why ≡ begin_fault.Memory
-  memory-is begin_fault.MustReopen e = cc
-  memory-is begin_fault.Busy e = cc
-  memory-is begin_fault.BadName e = cc
-  memory-is begin_fault.BadProfile e = cc
-  memory-is begin_fault.TooLong e = cc
-  memory-is begin_fault.OldVersion e = cc
-  memory-is begin_fault.NoSuchName e = cc
-  memory-is begin_fault.TooManyFiles e = cc
-  memory-is begin_fault.RepairDue e = cc
-  memory-is begin_fault.NothingDue e = cc
-  memory-is begin_fault.NewVersion e = cc
-  memory-is begin_fault.JournalFull e = cc
-  memory-is begin_fault.PackTooLong e = cc
   memory-is begin_fault.Memory e = refl
+  memory-is _ e = cc
 
   -- a begin is refused for the first cause over what the journal holds
   pub refused-over : (next : Vault) (kind : Kind) (own : Option ℕ) (why : BeginFault) →
       RefusesAs v kind own why next → IsRefusedOver area records kind own why
-  refused-over next kind own why refuses =
-      (let ps : List Provider = replicate (setup_in_effect records).n nobody in
-      let few : (setup_in_effect records).n ≤ length ps =
-      (let e = length-replicate (setup_in_effect records).n nobody in omega (arith, e)) in
-      let x = opened-one ps few in
-      let M = refuses x.0 (devices holds faults ps) 1 x.1.stands in
-      elim M.begins.1 [
+  refused-over next kind own why refuses = (let ps = replicate (setup_in_effect records).n nobody in
+      let x = opened-one ps (let e = length-replicate (setup_in_effect records).n nobody in omega (arith, e)) in
+      elim (refuses x.0 (devices holds faults ps) 1 x.1.stands).begins.1 [
         | inl e ↦ inr (sym (over-journal x.0 ps kind own x.1.over)
             ∙ (sym (refusal-of x.0 x.1.over.at_rest kind own) ∙ e))
         | inr e ↦ inl (memory-is why e)
@@ -207,9 +187,8 @@ module _ (there : ThereIsOne) (v : Vault) (records : List Record) (holds : Optio
     pub early : IfSome told (λ stripes. length ran.runs.goes_on.steps < 4 + stripes * (setup_in w).n)
 
   ran-to : (w : State) (moment : ℕ) → IsJustOpened w R.area records 1 faults providers → RanTo w moment
-  ran-to w moment over =
-      (let h = has-begun w moment kind own number v next (devices holds faults providers) named over.at_rest
-      (F.stands w providers over) begins in
+  ran-to w moment over = (let h = has-begun w moment kind own number v next (devices holds faults providers)
+      named over.at_rest (F.stands w providers over) begins in
       let E = goes w h.made.state (moment + 1) h.only h.place h.made.stands in
       let G = E.to_end in
       record {
@@ -226,23 +205,19 @@ module _ (there : ThereIsOne) (v : Vault) (records : List Record) (holds : Optio
               ends = subst (λ n. Happens 8 ((moment + 1) + length G.goes.steps)
                   (now h.made.state G.goes.steps) (Step n) (events.Ended (machine_answer ended.answer)) G.last)
                   (sym h.first) G.goes.ends;
-              heard_is = subst (λ n. ended.heard
-                  ≡ heard_by (job_of (now h.made.state G.goes.steps).jobs n)) (sym h.first)
-                  G.goes.heard_is;
+              heard_is = subst (λ n. ended.heard ≡ heard_by (job_of (now h.made.state G.goes.steps).jobs n))
+                  (sym h.first) G.goes.heard_is;
             };
           };
           images = subst (λ told. StandsForState told G.last) (sym A.disk) G.stands.desk.devices.images;
           faults_are = G.stands.desk.devices.faults ∙ sym A.faults;
-          handed = subst (λ (ps : List Provider). AreHanded ps G.last)
-              (sym A.providers) G.stands.desk.devices.providers;
-          outside_text = subst (λ told. SameOutside R.area kind own (machine_answer ended.answer) records G.last.journal
-              old.disk told) (sym A.disk)
-              (outside-before R.area kind own (machine_answer ended.answer) records G.last.journal old.disk holds
-              new_holds B.reads
+          handed = subst (λ ps. AreHanded ps G.last) (sym A.providers) G.stands.desk.devices.providers;
+          outside_text = subst (λ told. SameOutside R.area kind own (machine_answer ended.answer) records
+              G.last.journal old.disk told) (sym A.disk) (outside-before R.area kind own
+              (machine_answer ended.answer) records G.last.journal old.disk holds new_holds B.reads
               (subst (λ rs. SameOutside R.area kind own (machine_answer ended.answer) rs G.last.journal holds
-              new_holds) over.journal
-              (subst (λ a. SameOutside a kind own (machine_answer ended.answer) w.journal G.last.journal holds
-              new_holds) over.area_is G.outside_text)));
+              new_holds) over.journal (subst (λ a. SameOutside a kind own (machine_answer ended.answer)
+              w.journal G.last.journal holds new_holds) over.area_is G.outside_text)));
         };
         opened = over.at_rest;
         begun = h.walked;
@@ -304,9 +279,8 @@ module _ (there : ThereIsOne) (v : Vault) (records : List Record) (holds : Optio
   }
 
   pub ends-over : LeavesAll → EndsOver R.area records kind own ended old new
-  ends-over leaves =
-      ends-with (leaves records kind own (machine_answer ended.answer) old new ended.heard R spelled-here named
-      as-many runs-alone)
+  ends-over leaves = ends-with (leaves records kind own (machine_answer ended.answer) old new ended.heard R
+      spelled-here named as-many runs-alone)
 
   -- ---- a put that was an open stream as it ended
 
@@ -340,36 +314,27 @@ module _ (there : ThereIsOne) (v : Vault) (records : List Record) (holds : Optio
 
     happens : Happens 8 ((1 + 1) + length steps) (now r.ran.runs.begun steps) (Step 1)
         (events.Ended (machine_answer ended.answer)) r.ran.last
-    happens = subst (λ n. Happens 8 ((1 + 1) + length steps) (now r.ran.runs.begun steps) (Step n)
-        (events.Ended (machine_answer ended.answer)) r.ran.last) r.first r.ran.runs.goes_on.ends
-
-    within-there : stripes ≤ stripes_of (profiled (setup_in L.state) (chosen (setup_in L.state) own))
-        (length bytes)
-    within-there = subst (λ (s : Setup). stripes ≤ stripes_of (profiled s (chosen s own)) (length bytes))
-        (sym (setup-over L.state R.area records faults old.providers L.over)) within
+    happens = rw r.first at r.ran.runs.goes_on.ends
 
     early : walk.next.place < 4 + stripes_of (profiled (setup_in L.state) (chosen (setup_in L.state) own))
         (length bytes) * (setup_in L.state).n
-    early =
-        (let l = subst (λ (o : Option ℕ). IfSome o
-        (λ stripes. length steps < 4 + stripes * (setup_in L.state).n)) is_open r.early in
+    early = (let l = subst (λ o. IfSome o (λ stripes. length steps < 4 + stripes * (setup_in L.state).n))
+        is_open r.early in
         let p = walk.place in
-        let m = mul-le-mul_right (setup_in L.state).n within-there in
+        let m = mul-le-mul_right (setup_in L.state).n (rw (← (setup-over L.state R.area records faults
+        old.providers L.over)) at within) in
         omega (arith, l, p, m))
 
     none-put : machine_answer ended.answer ≡ answer.Put → ⊥
     none-put e = no-put L.state (now r.ran.runs.begun steps) r.ran.last name bytes own walk.next r.opened
-        walked early ((1 + 1) + length steps)
-        (subst (λ (how : Answer). Happens 8 ((1 + 1) + length steps) (now r.ran.runs.begun steps) (Step 1)
-        (events.Ended how) r.ran.last) e happens)
+        walked early ((1 + 1) + length steps) (rw e at happens)
 
     none-kept : machine_answer ended.answer ≡ answer.DiskFault → L.left.after ≡ records
     unfolding r
     none-kept e = L.after_is
         ∙ (fault-first L.state (now r.ran.runs.begun steps) r.ran.last name bytes own walk.next r.opened
         walked early ((1 + 1) + length steps)
-        (subst (λ (how : Answer). Happens 8 ((1 + 1) + length steps) (now r.ran.runs.begun steps) (Step 1)
-        (events.Ended how) r.ran.last) e happens) ∙ L.history)
+        (rw e at happens) ∙ L.history)
 
     pub left-open : LeftAlone R.area records kind own (machine_answer ended.answer) old new ended.heard
     left-open = L.left
@@ -377,8 +342,7 @@ module _ (there : ThereIsOne) (v : Vault) (records : List Record) (holds : Optio
     -- its last record is neither in effect nor in doubt
     pub not-ended : MayHaveEnd records left-open.after left-open.doubt name (length bytes) own → ⊥
     unfolding L left-open
-    not-ended m = not-whole (ran_alone records old new ended.heard L.left.faults L.left.after L.left.doubt) own
-        name bytes (machine_answer ended.answer)
-        (subst (λ (k : Kind). LeavesBy (ran_alone records old new ended.heard L.left.faults L.left.after
-        L.left.doubt) k own (machine_answer ended.answer)) is_put L.left.leaves.by_kind).0
-        none-put none-kept m
+    not-ended m = not-whole (ran_alone records old new ended.heard L.left.faults L.left.after L.left.doubt)
+        own name bytes (machine_answer ended.answer) (subst (λ (k : Kind). LeavesBy
+        (ran_alone records old new ended.heard L.left.faults L.left.after L.left.doubt) k own
+        (machine_answer ended.answer)) is_put L.left.leaves.by_kind).0 none-put none-kept m

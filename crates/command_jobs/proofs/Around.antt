@@ -1,6 +1,6 @@
 -- What a pack leaves of a disk outside its new text and the switch byte: its moves put bytes in the place of
 -- others, or make them firm.
-use Rattle.command_jobs.proofs.Words.{◌≡◌, ℕ, Bool, true, false, zero, suc, ◌+◌, ◌-◌, ◌<◌, ◌≤◌, min, List, [], ◌∷◌, ◌++◌, length, take, drop, replicate, refl, sym, ap, subst, ◌∙◌, inl, inr, arith, All, drop-append-le, drop-map, drop-take, length-append, length-map, length-replicate, length-take, length-take-le, map-append, take-append-drop, take-append-le, take-map, take_all, cases_lt, take-append-add, take-append_seam, take-length, Cells, reads, firm, loose, spliced, written, Torn, synced, reads-firm, image-firm, Record, Area, base_of, end_in, moved_on, MayBeTorn, StaysAround}
+use Rattle.command_jobs.proofs.Words.{◌≡◌, ℕ, Bool, true, false, zero, suc, ◌+◌, ◌-◌, ◌<◌, ◌≤◌, min, List, [], ◌∷◌, ◌++◌, length, take, drop, replicate, refl, sym, ap, subst, ◌∙◌, inl, inr, arith, All, drop-append-le, drop-map, drop-take, length-append, length-map, length-replicate, length-take, length-take-le, map-append, take-append-drop, take-append-le, take-map, take_all, cases_lt, take-append-add, take-append_seam, take-length, Cells, reads, firm, loose, spliced, written, synced, reads-firm, image-firm, Record, Area, base_of, end_in, moved_on, MayBeTorn, StaysAround}
 use Rattle.std.proofs.Common.{append_assoc}
 use Rattle.std.proofs.lemmas.List.{append-nil}
 use Rattle.std.proofs.lemmas.List.Elements.{All-replicate}
@@ -20,9 +20,8 @@ pub record IsAround (at end : ℕ) (old new : Cells) : Type 0 where
 
 take-min : (at : ℕ) (old : Cells) → take (min at (length old)) old ≡ take at old
 take-min at old = elim (cases_lt at (length old)) [
-  | inl few ↦ (let m : min at (length old) ≡ at = omega (arith, few) in ap (λ (k : ℕ). take k old) m)
-  | inr many ↦ (let m : min at (length old) ≡ length old = omega (arith, many) in
-      ap (λ (k : ℕ). take k old) m ∙ (take-length old ∙ sym (take_all at old many)))
+  | inl few ↦ (ap (λ k. take k old) (omega (arith, few)))
+  | inr many ↦ (ap (λ k. take k old) (omega (arith, many)) ∙ (take-length old ∙ sym (take_all at old many)))
 ]
 
 take-spliced : (k at : ℕ) (new old : Cells) → k ≤ at → at ≤ length old →
@@ -45,9 +44,8 @@ IsImage-take : (k : ℕ) (cells : Cells) (image : List ℕ) → IsImage cells im
     IsImage (take k cells) (take k image)
 IsImage-take zero cells image is = tt
 IsImage-take (suc k) [] [] is = tt
-IsImage-take (suc k) [] (b ∷ image) is = absurd is
-IsImage-take (suc k) (c ∷ cells) [] is = absurd is
 IsImage-take (suc k) (c ∷ cells) (b ∷ image) is = (is.0, IsImage-take k cells image is.1)
+IsImage-take (suc k) _ _ is = absurd is
 
 -- ---- a write into the other area, and one that failed
 
@@ -61,11 +59,10 @@ module _ (at n : ℕ) (old new : Cells) (s : IsSplice at n old new) where
   in-front : take at new ≡ take at old ++ added
   in-front =
       let long : length (take start old) ≡ start = omega (arith, length-take start old) in
-      let is : at ≡ length (take start old) + (at - start) = omega (arith, long) in
-      ap (λ (c : Cells). take at c) s.held
-      ∙ (ap (λ (k : ℕ). take k (take start old ++ (s.part ++ drop (start + length s.part) old))) is
+      ap (λ c. take at c) s.held
+      ∙ (ap (λ k. take k (take start old ++ (s.part ++ drop (start + length s.part) old))) (omega (arith, long))
       ∙ (take-append-add (take start old) (s.part ++ drop (start + length s.part) old) (at - start)
-      ∙ ap (λ (c : Cells). c ++ added) (take-min at old)))
+      ∙ ap (λ c. c ++ added) (take-min at old)))
 
   around-text : 8 ≤ at → 8 ≤ length old → IsAround at (at + n) old new
   around-text low long = record {
@@ -127,17 +124,16 @@ added-zeros at bytes old =
 around-switch : (at end : ℕ) (first old new : Cells) → IsSplice 7 1 old new → 8 ≤ at → 8 ≤ end →
     8 ≤ length old → IsAround at end first old → IsAround at end first new
 around-switch at end first old new s low past long x =
-    let same : drop 8 new ≡ drop 8 old = kept-above 8 7 1 old new s (omega arith) in
-    let is : at ≡ 8 + (at - 8) = omega (arith, low) in
+    let is : at ≡ 8 + (at - 8) = omega arith in
     record {
-      front = (ap (λ (c : Cells). take 7 c) s.held
-          ∙ take-spliced 7 (min 7 (length old)) s.part old (omega (arith, long)) (omega arith)) ∙ x.front;
+      front = (ap (λ c. take 7 c) s.held
+          ∙ take-spliced 7 (min 7 (length old)) s.part old (omega arith) (omega arith)) ∙ x.front;
       gap = x.gap;
-      middle = (ap (λ (k : ℕ). drop 8 (take k new)) is
+      middle = (ap (λ k. drop 8 (take k new)) is
           ∙ (drop-take 8 (at - 8) new
-          ∙ (ap (λ (c : Cells). take (at - 8) c) same
+          ∙ (ap (λ c. take (at - 8) c) (kept-above 8 7 1 old new s (omega arith))
           ∙ (sym (drop-take 8 (at - 8) old)
-          ∙ ap (λ (k : ℕ). drop 8 (take k old)) (sym is))))) ∙ x.middle;
+          ∙ ap (λ k. drop 8 (take k old)) (sym is))))) ∙ x.middle;
       behind = kept-above end 7 1 old new s past ∙ x.behind;
     }
 
@@ -235,33 +231,25 @@ steps-cells (suc (suc (suc (suc n)))) at text switch bytes c few low h = absurd 
 -- and where a move failed
 pub torn-cells : (n at size : ℕ) (bytes : List ℕ) (c new : Cells) → 8 ≤ at → OnCells n at (at + size) bytes c →
     MayBeTorn n at size 7 c new → IsAround at (at + size) (firm bytes) new
-torn-cells zero at size bytes c new low (is, long) torn =
-    around-text at size (firm bytes) new
-    (splice-torn at size (firm bytes) new (subst (λ (d : Cells). Torn at size d new) is torn)) low
-    (subst (λ (d : Cells). 8 ≤ length d) is long)
-torn-cells (suc zero) at size bytes c new low (z, long) same =
-    subst (λ (d : Cells). IsAround at (at + size) (firm bytes) d) (sym same) z.around
-torn-cells (suc (suc zero)) at size bytes c new low (z, long, is) torn =
-    around-switch at (at + size) (firm bytes) c new (splice-torn 7 1 c new torn) low (omega (arith, low)) long
-    z.around
-torn-cells (suc (suc (suc zero))) at size bytes c new low z same =
-    subst (λ (d : Cells). IsAround at (at + size) (firm bytes) d) (sym same) z.around
-torn-cells (suc (suc (suc (suc n)))) at size bytes c new low (z, is) same =
-    subst (λ (d : Cells). IsAround at (at + size) (firm bytes) d) (sym same) z.around
+torn-cells zero at size bytes c new low (is, long) torn = around-text at size (firm bytes) new
+    (splice-torn at size (firm bytes) new (rw is at torn)) low (rw is at long)
+torn-cells (suc zero) at size bytes c new low (z, long) same = (rw (← same) at z.around)
+torn-cells (suc (suc zero)) at size bytes c new low (z, long, is) torn = around-switch at (at + size)
+    (firm bytes) c new (splice-torn 7 1 c new torn) low (omega arith) long z.around
+torn-cells (suc (suc (suc zero))) at size bytes c new low z same = (rw (← same) at z.around)
+torn-cells (suc (suc (suc (suc n)))) at size bytes c new low (z, is) same = rw (← same) at z.around
 
 -- ---- what each image has
 
 module _ (area : Area) (records : List Record) (bytes : List ℕ) (c : Cells)
     (x : IsAround (base_of area) (end_in area records) (firm bytes) c) (image : List ℕ) (is : IsImage c image) where
   front-image : take 7 image ≡ take 7 bytes
-  front-image = image-firm (take 7 bytes) (take 7 image)
-      (subst (λ (d : Cells). IsImage d (take 7 image)) (x.front ∙ take-map (λ b. (b, false)) 7 bytes)
-      (IsImage-take 7 c image is))
+  front-image = image-firm (take 7 bytes) (take 7 image) (subst (λ (d : Cells). IsImage d (take 7 image))
+      (x.front ∙ take-map (λ b. (b, false)) 7 bytes) (IsImage-take 7 c image is))
 
   behind-image : drop (end_in area records) image ≡ drop (end_in area records) bytes
   behind-image = image-firm (drop (end_in area records) bytes) (drop (end_in area records) image)
-      (subst (λ (d : Cells). IsImage d (drop (end_in area records) image))
-      (x.behind ∙ drop-map (λ b. (b, false)) (end_in area records) bytes)
+      (rw (x.behind ∙ drop-map (λ b. (b, false)) (end_in area records) bytes) at
       (IsImage-drop (end_in area records) c image is))
 
   middle-firm : drop 8 (take (base_of area) (firm bytes)) ≡ firm (drop 8 (take (base_of area) bytes))
@@ -272,9 +260,8 @@ module _ (area : Area) (records : List Record) (bytes : List ℕ) (c : Cells)
   pub stays-torn : StaysAround area records (λ gap. Unit {0}) bytes image
   stays-torn =
       let m = IsImage-firm (drop 8 (take (base_of area) bytes)) x.gap (drop 8 (take (base_of area) image))
-      (subst (λ (d : Cells). IsImage d (drop 8 (take (base_of area) image)))
-      (x.middle ∙ ap (λ (d : Cells). d ++ x.gap) middle-firm)
-      (IsImage-drop 8 (take (base_of area) c) (take (base_of area) image)
+      (rw (x.middle ∙ ap (λ (d : Cells). d ++ x.gap) middle-firm) at (IsImage-drop 8 (take (base_of area) c)
+      (take (base_of area) image)
       (IsImage-take (base_of area) c image is))) in
       record { front = front-image; gap = m.0; fills = tt; middle = m.1; behind = behind-image }
 

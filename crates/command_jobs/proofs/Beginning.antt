@@ -28,23 +28,19 @@ module _ (there : ThereIsOne) (v : Vault) (area : Area) (records : List Record) 
     (faults : ℕ) (F : IsFreshOver v area records holds faults) where
   -- its numbers make a shape
   its-shape : IsShape (setup_in_effect records).n (setup_in_effect records).l (setup_in_effect records).b
-  its-shape =
-      (let ps : List Provider = replicate (setup_in_effect records).n nobody in
-      let few : (setup_in_effect records).n ≤ length ps =
-      (let e = length-replicate (setup_in_effect records).n nobody in omega (arith, e)) in
-      let x = there-opened there area records faults ps F.read few in
-      subst (λ (s : Setup). IsShape s.n s.l s.b) (setup-over x.0 area records faults ps x.1)
-      (valid-shape (setup_in x.0) (setup-valid 8 x.0 (opened-sound x.0 x.1.at_rest) x.1.at_rest.opened)))
+  its-shape = (let ps = replicate (setup_in_effect records).n nobody in
+      let x = there-opened there area records faults ps F.read (let e = length-replicate
+      (setup_in_effect records).n nobody in omega (arith, e)) in
+      (rw (setup-over x.0 area records faults ps x.1) at (valid-shape (setup_in x.0)
+      (setup-valid 8 x.0 (opened-sound x.0 x.1.at_rest) x.1.at_rest.opened))))
 
   -- how many bytes its stripes have
   pub stripe-over : (own : Option ℕ) → stripe_size (with_master (vault_setup v) (master_of v))
       (chosen (with_master (vault_setup v) (master_of v)) own) ≡ put_stripe records own
-  stripe-over own = ap (λ (s : Setup). stripe_size s (chosen s own))
-      (fresh-setup there v area records holds faults F)
+  stripe-over own = ap (λ s. stripe_size s (chosen s own)) (fresh-setup there v area records holds faults F)
 
   pub is-stripe : (own : Option ℕ) (size : ℕ) → size ≡ put_stripe records own → IsStripe size
-  is-stripe own size is = subst IsStripe (sym is)
-      (a-stripe (setup_in_effect records).l
+  is-stripe own size is = subst IsStripe (sym is) (a-stripe (setup_in_effect records).l
       (profile_of (chosen (setup_in_effect records) own)).keep its-shape.2
       (let n = its-shape.1 in let k = its-shape.4 in omega (arith, n, k))
       (some_kept (chosen (setup_in_effect records) own)) (keep-few (chosen (setup_in_effect records) own)))
@@ -54,15 +50,13 @@ module _ (there : ThereIsOne) (v : Vault) (area : Area) (records : List Record) 
       (begins : (bytes : List ℕ) → AreBytes bytes → length bytes ≤ largest_file →
       BeginsAs v (PutJob name bytes) own number next) where
     pub first-number : number ≡ 1
-    first-number =
-        (let x = opened-one there v area records holds faults F providers enough in
+    first-number = (let x = opened-one there v area records holds faults F providers enough in
         (has-begun x.0 1 (PutJob name []) own number v next (devices holds faults providers)
         (MayName.put name [] refl) x.1.over.at_rest x.1.stands (begins [] refl (omega arith))).first)
 
     pub all-begun : (bytes : List ℕ) → AreBytes bytes → length bytes ≤ largest_file →
         IsBegun next (devices holds faults providers) size bytes
-    all-begun bytes are few =
-        (let x = opened-one there v area records holds faults F providers enough in
+    all-begun bytes are few = (let x = opened-one there v area records holds faults F providers enough in
         let h = has-begun x.0 1 (PutJob name bytes) own number v next (devices holds faults providers)
         (MayName.put name bytes refl) x.1.over.at_rest x.1.stands (begins bytes are few) in
         record {

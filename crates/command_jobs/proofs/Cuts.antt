@@ -1,10 +1,8 @@
 -- A job that was cut short: what of its records is in effect, and which one comes next.
-use Rattle.command_jobs.proofs.Words.{◌≡◌, ℕ, ◌<◌, ◌⊎◌, true, [], ◌∷◌, length, replicate, Option, Some, None, refl, ap, sym, subst, ◌∙◌, inl, inr, arith, length-replicate, Record, PutStart, AuditStart, AuditDone, version_of, next_id, next_audit, Kind, PutJob, GetJob, DropJob, AuditJob, RepairJob, UpgradeJob, job_of, Action, WriteBody, SyncBody, WriteGate, SyncGate, Store, Fetch, Ask, Work, Remove, End, actions_left, appends_left, Step, State, Append, setup_in, chosen, done_record, Writes, Moves, next_action, Happens, same_value, setup_in_effect, IsNext, put_done, moves_made, moves_before, holder, appends-order, body-left, small-sums, IsOpenAtRest, first_record, IsSecondRecord, WalkedAt, found, runs, Wrote, wrote, IsWriting, is_move}
-use Rattle.column_defs.specs.Verdicts.{Sums}
+use Rattle.command_jobs.proofs.Words.{◌≡◌, ℕ, ◌<◌, ◌⊎◌, true, [], ◌∷◌, length, replicate, Option, Some, None, refl, ap, sym, subst, ◌∙◌, inl, inr, arith, length-replicate, Record, PutStart, AuditStart, AuditDone, version_of, next_id, next_audit, Kind, PutJob, GetJob, DropJob, AuditJob, RepairJob, UpgradeJob, job_of, Action, WriteBody, SyncBody, WriteGate, SyncGate, Store, End, actions_left, appends_left, Step, State, Append, setup_in, chosen, done_record, Writes, Moves, next_action, Happens, same_value, setup_in_effect, IsNext, put_done, moves_made, moves_before, holder, appends-order, body-left, small-sums, IsOpenAtRest, first_record, IsSecondRecord, WalkedAt, found, runs, Wrote, wrote, IsWriting, is_move}
 use Rattle.record_defs.specs.Records.{Setup}
 use Rattle.machine_defs.specs.Jobs.{Job}
 use Rattle.machine_defs.specs.Answers as answer
-use Rattle.machine_defs.specs.Audits.{HasSums}
 use Rattle.machine_defs.specs.Events.{Ended}
 use Rattle.machine_defs.specs.Steps.{Acts}
 use Rattle.state_laws.proofs.Events.{moves-next}
@@ -32,10 +30,8 @@ Clears w action new =
 
 moves-memory : (w : State) (job : Job) (action : Action) (flight : Option Append) (new : State) →
     Moves w job action flight (Ended answer.Memory) new → Clears w action new
-moves-memory w job WriteBody flight new is =
-    (ap (λ (v : State). v.records) is, inl (refl, ap (λ (v : State). v.append) is))
-moves-memory w job WriteGate (Some a) new (at, is) =
-    (ap (λ (v : State). v.records) is, inr (ap (λ (v : State). v.append) is))
+moves-memory w job WriteBody flight new is = (ap (λ v. v.records) is, inl (refl, ap (λ v. v.append) is))
+moves-memory w job WriteGate (Some a) new (at, is) = (ap (λ v. v.records) is, inr (ap (λ v. v.append) is))
 moves-memory w job SyncBody (Some a) new h = absurd h
 moves-memory w job SyncGate (Some a) new h = absurd h
 moves-memory w job action flight new h = absurd h
@@ -59,8 +55,7 @@ module _ (start : State) (O : IsOpenAtRest start 1) (kind : Kind) (own : Option 
   -- a step that found no memory leaves the records, and no append in flight
   pub memory-clears : (moment : ℕ) (new : State) → Happens 8 moment w (Step 1) (Ended answer.Memory) new →
       (new.records ≡ w.records) × (new.append ≡ None)
-  memory-clears moment new h =
-      (let a = step-makes start O kind w job W (Ended answer.Memory) new h in
+  memory-clears moment new h = (let a = step-makes start O kind w job W (Ended answer.Memory) new h in
       let c = acts-memory w job a.0 new a.2 in
       (c.0, elim c.1 [ inl e ↦ e.1 ∙ none-flies start O kind w job W a.0 a.1 e.0 | inr e ↦ e ]))
 
@@ -68,8 +63,7 @@ module _ (start : State) (O : IsOpenAtRest start 1) (kind : Kind) (own : Option 
 
   within : (action : Action) → next_action w job ≡ Some action → 0 < moves_before action →
       0 < appends_left (setup_in w) job
-  within action next later =
-      (let order = (W.sound.jobs 1 job (found start O kind w job W)).order in
+  within action next later = (let order = (W.sound.jobs 1 job (found start O kind w job W)).order in
       let e = moves-next w job action (moves_made w.append 1) next order in
       appends-order (moves_made w.append 1) (actions_left (setup_in w) job) (omega (arith, e, later)) order)
 
@@ -80,12 +74,7 @@ module _ (start : State) (O : IsOpenAtRest start 1) (kind : Kind) (own : Option 
   before-move SyncBody next move = within SyncBody next (omega arith)
   before-move WriteGate next move = within WriteGate next (omega arith)
   before-move SyncGate next move = within SyncGate next (omega arith)
-  before-move (Store j object stripe) next move = cc
-  before-move (Fetch j object stripe) next move = cc
-  before-move (Ask j object round) next move = cc
-  before-move (Work object stripe) next move = cc
-  before-move (Remove j object) next move = cc
-  before-move End next move = cc
+  before-move _ next move = cc
 
   -- ---- the record that comes next
 
@@ -107,8 +96,7 @@ module _ (start : State) (O : IsOpenAtRest start 1) (kind : Kind) (own : Option 
     length-replicate (setup_in_effect start.records).n 0,
     record {
       done = [];
-      rest = AuditDone (next_audit start.records) 0
-          (replicate (setup_in_effect start.records).n 0) ∷ [];
+      rest = AuditDone (next_audit start.records) 0 (replicate (setup_in_effect start.records).n 0) ∷ [];
       parts = ap (λ (r : Record). r ∷ AuditDone (next_audit start.records) 0
           (replicate (setup_in_effect start.records).n 0) ∷ []) (sym is);
       after_is = same;
@@ -123,40 +111,29 @@ module _ (start : State) (O : IsOpenAtRest start 1) (kind : Kind) (own : Option 
   unfolding setup_in
   setup-at = refl
 
-  many-counts : (sums : Sums) → HasSums (setup_in start) job sums →
-      length sums.counts ≡ (setup_in_effect start.records).n
-  many-counts sums has =
-      (let a = (small-sums 8 w W.sound 1 job sums (found start O kind w job W)
-      (subst (λ (s : Setup). HasSums s job sums) (sym W.setup) has)).size in
-      a ∙ ap (λ (s : Setup). s.n) (W.setup ∙ setup-at))
-
   next-second : (entry : Record) (kd : Kind) → w.records ≡ first_record start kd ∷ start.records →
       IsSecondRecord start job kd entry → IsNext kd own start.records w.records entry
-  next-second entry (PutJob name bytes) same is =
-      (let first = ap (done_record (version_of start.records) (next_id start.records) (length bytes))
-      (W.profile_is ∙ ap (λ (s : Setup). chosen s own) setup-at) in
-      record {
-        done = PutStart (next_id start.records) name ∷ [];
-        rest = [];
-        parts = ap (λ (r : Record). PutStart (next_id start.records) name ∷ r ∷ []) (sym (is ∙ first));
-        after_is = same;
-      })
-  next-second entry (GetJob name) same is = absurd is
-  next-second entry (DropJob name) same is = absurd is
-  next-second entry AuditJob same is =
-      (let sums : Sums = is.0 in (
-        sums.undecided,
-        sums.counts,
-        many-counts sums is.1,
-        record {
-          done = AuditStart (next_audit start.records) ∷ [];
-          rest = [];
-          parts = ap (λ (r : Record). AuditStart (next_audit start.records) ∷ r ∷ []) (sym is.2);
-          after_is = same;
-        },
-      ))
-  next-second entry RepairJob same is = absurd is
-  next-second entry UpgradeJob same is = absurd is
+  next-second entry (PutJob name bytes) same is = (record {
+    done = PutStart (next_id start.records) name ∷ [];
+    rest = [];
+    parts = ap (λ r. PutStart (next_id start.records) name ∷ r ∷ []) (sym
+        (is ∙ (ap (done_record (version_of start.records) (next_id start.records) (length bytes))
+        (W.profile_is ∙ ap (λ (s : Setup). chosen s own) setup-at))));
+    after_is = same;
+  })
+  next-second entry AuditJob same is = (let sums = is.0 in (
+    sums.undecided,
+    sums.counts,
+    (let a = (small-sums 8 w W.sound 1 job sums (found start O kind w job W) (rw (← W.setup) at is.1)).size in
+        a ∙ ap (λ s. s.n) (W.setup ∙ setup-at)),
+    record {
+      done = AuditStart (next_audit start.records) ∷ [];
+      rest = [];
+      parts = ap (λ r. AuditStart (next_audit start.records) ∷ r ∷ []) (sym is.2);
+      after_is = same;
+    },
+  ))
+  next-second entry _ same is = absurd is
 
   next-wrote : (entry : Record) → Writes w job kind entry → Wrote start O kind w job W entry →
       IsNext kind own start.records w.records entry
@@ -165,18 +142,15 @@ module _ (start : State) (O : IsOpenAtRest start 1) (kind : Kind) (own : Option 
 
   next-by : (entry : Record) → 0 < appends_left (setup_in w) job → Writes w job job.kind entry →
       IsNext kind own start.records w.records entry
-  next-by entry left h = next-wrote entry (subst (λ (k : Kind). Writes w job k entry) W.kind_is h)
-      (wrote start O kind w job W entry left h)
+  next-by entry left h = next-wrote entry (rw W.kind_is at h) (wrote start O kind w job W entry left h)
 
   -- the record that the job's append writes
   pub next-written : (entry : Record) → IsWriting w 1 entry → IsNext kind own start.records w.records entry
   next-written entry writing =
-      (let same : writing.job ≡ job = same_value (job_of w.jobs 1) writing.job job writing.runs
-      (found start O kind w job W) in
-      let move : is_move (next_action w job) ≡ true =
-      subst (λ (j : Job). is_move (next_action w j) ≡ true) same writing.moves in
-      next-by entry (by_action (next_action w job) refl move)
-      (subst (λ (j : Job). Writes w j j.kind entry) same writing.writes))
+      (let same = same_value (job_of w.jobs 1) writing.job job writing.runs (found start O kind w job W) in
+      next-by entry (by_action (next_action w job) refl (subst (λ (j : Job). is_move (next_action w j) ≡ true)
+      same writing.moves))
+      (rw same at writing.writes))
     where
       by_action : (o : Option Action) → next_action w job ≡ o → is_move o ≡ true →
           0 < appends_left (setup_in w) job
@@ -185,8 +159,7 @@ module _ (start : State) (O : IsOpenAtRest start 1) (kind : Kind) (own : Option 
 
   -- the record in flight
   pub next-flight : (a : Append) → w.append ≡ Some a → IsNext kind own start.records w.records a.entry
-  next-flight a flight =
-      (let sound = W.sound.append a flight in
+  next-flight a flight = (let sound = W.sound.append a flight in
       let h = holder 8 w W.sound a flight in
       let one : h.0 ≡ job = one-found job h.0 a.job (subst (λ js. job_of js a.job ≡ Some h.0) W.jobs h.1) in
       let same : sound.job ≡ job = one-found job sound.job a.job

@@ -29,17 +29,15 @@ in-front P (x ∷ xs) ys (suc i) a l h e = in-front P xs ys i a (omega (arith, l
 
 in-middle : {X : Type 0} (P : X → Type 0) (xs ys zs : List X) (i : ℕ) (a : X) → length xs ≤ i →
     i < length xs + length ys → Each P ys → slice_get (xs ++ (ys ++ zs)) i ≡ Some a → P a
-in-middle P [] ys zs i a l m h e = in-front P ys zs i a (omega (arith, m)) h e
-in-middle P (x ∷ xs) ys zs zero a l m h e = absurd (omega (arith, l))
-in-middle P (x ∷ xs) ys zs (suc i) a l m h e =
-    in-middle P xs ys zs i a (omega (arith, l)) (omega (arith, m)) h e
+in-middle P [] ys zs i a l m h e = in-front P ys zs i a (omega arith) h e
+in-middle P (x ∷ xs) ys zs zero a l m h e = absurd (omega arith)
+in-middle P (x ∷ xs) ys zs (suc i) a l m h e = in-middle P xs ys zs i a (omega arith) (omega arith) h e
 
 -- what a put does next stands in its list
 put-next : (w : State) (job : Job) (name bytes : List ℕ) → job.kind ≡ PutJob name bytes →
     next_action w job ≡ slice_get (actions_of (setup_in w) job) job.place
-put-next w job name bytes kind =
-    cond_false (is_idle_drop w job job.kind) (Some End) (slice_get (actions_of (setup_in w) job) job.place)
-    (ap (is_idle_drop w job) kind)
+put-next w job name bytes kind = cond_false (is_idle_drop w job job.kind) (Some End)
+    (slice_get (actions_of (setup_in w) job) job.place) (ap (is_idle_drop w job) kind)
 
 -- ---- what they may end in
 
@@ -84,8 +82,7 @@ module _ (start w new : State) (name bytes : List ℕ) (own : Option ℕ) (job :
 
   listed : (action : Action) → next_action w job ≡ Some action →
       slice_get (append_actions ++ (stores ++ rest)) job.place ≡ Some action
-  listed action is =
-      ap (λ xs. slice_get xs job.place) (sym list)
+  listed action is = ap (λ xs. slice_get xs job.place) (sym list)
       ∙ (sym (put-next w job name bytes W.kind_is) ∙ is)
 
   its : (action : Action) → next_action w job ≡ Some action →
@@ -102,8 +99,7 @@ module _ (start w new : State) (name bytes : List ℕ) (own : Option ℕ) (job :
 
   -- the put has not done its work
   pub no-put : (moment : ℕ) → Happens 8 moment w (Step 1) (Ended answer.Put) new → ⊥
-  no-put moment h =
-      (let a = step-makes start O (PutJob name bytes) w job W (Ended answer.Put) new h in
+  no-put moment h = (let a = step-makes start O (PutJob name bytes) w job W (Ended answer.Put) new h in
       elim (its a.0 a.1) [
         | inl m ↦ elim (move-ends w job a.0 answer.Put new m.1 a.2) [ inl e ↦ cc | inr e ↦ cc ]
         | inr s ↦ store-put w job a.0 new s a.2
@@ -174,8 +170,7 @@ module _ (x : Ran) (own : Option ℕ) (name bytes : List ℕ) where
     where
       cut-short : IsCut x (put_records x.records name (length bytes) own) →
           x.after ≡ its_done ∷ its_start ∷ x.records → ⊥
-      cut-short c e =
-          (let a = ap (λ (ys : List Record). length ys) (sym c.after ∙ e) in
+      cut-short c e = (let a = ap (λ (ys : List Record). length ys) (sym c.after ∙ e) in
           let b = length-append (reverse c.done) x.records in
           let r = length-reverse c.done in
           let p = ap (λ (ys : List Record). length ys) c.parts in

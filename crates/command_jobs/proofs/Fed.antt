@@ -26,10 +26,9 @@ pub record OnItsWay (start : State) (name bytes : List ℕ) (own : Option ℕ) (
 
 -- so is each put that has what was given, since it began
 abbrev pub IsFed : Vault → Devices → Vault → Devices → Option ℕ → Bool → List ℕ → Type 0
-IsFed old d v e told last given =
-    (start w : State) (name bytes : List ℕ) (own : Option ℕ) (moment : ℕ) → Follows last given bytes
-    → (only : IsOnly start (PutJob name bytes) own w) → only.job.place ≡ 0 → Stands old d w
-    → OnItsWay start name bytes own w moment told v d e
+IsFed old d v e told last given = (start w : State) (name bytes : List ℕ) (own : Option ℕ) (moment : ℕ) →
+    Follows last given bytes → (only : IsOnly start (PutJob name bytes) own w) → only.job.place ≡ 0 →
+    Stands old d w → OnItsWay start name bytes own w moment told v d e
 
 -- ---- the begin
 
@@ -50,8 +49,7 @@ none-waits v d size bytes B = by (wants_of v 1) refl
   where
     by : (o : Option ℕ) → wants_of v 1 ≡ o → o ≡ None
     by None e = refl
-    by (Some k) e =
-        absurd (let x = waits-at B.start (PutJob B.name bytes) B.own B.state v d B.only B.stands
+    by (Some k) e = absurd (let x = waits-at B.start (PutJob B.name bytes) B.own B.state v d B.only B.stands
         (ap is_some e) in let p = x.place_is in let z = B.place in omega (arith, p, z))
 
 module _ (old v : Vault) (d e : Devices) (size : ℕ) (given : List ℕ) (told : Option ℕ)
@@ -87,8 +85,7 @@ module _ (old v : Vault) (d e : Devices) (size : ℕ) (given : List ℕ) (told :
 piece-parts : (last : Bool) (given piece bytes : List ℕ) → Follows last (given ++ piece) bytes →
     (rest : List ℕ) × (bytes ≡ given ++ (piece ++ rest)) × (last ≡ true → rest ≡ [])
 piece-parts false given piece bytes (rest, is) = (rest, is ∙ append_assoc given piece rest, λ e. cc)
-piece-parts true given piece bytes is =
-    ([], is ∙ ap (λ xs. given ++ xs) (sym (append-nil piece)), λ e. refl)
+piece-parts true given piece bytes is = ([], is ∙ ap (λ xs. given ++ xs) (sym (append-nil piece)), λ e. refl)
 
 module _ (old v next : Vault) (d e : Devices) (size k : ℕ) (given piece : List ℕ) (last : Bool)
     (told : Option ℕ) (after : Option ℕ)
@@ -99,8 +96,7 @@ module _ (old v next : Vault) (d e : Devices) (size k : ℕ) (given piece : List
   fits : (w : State) (job : Job) (name bytes : List ℕ) → job_of w.jobs 1 ≡ Some job →
       job.kind ≡ PutJob name bytes → Follows last (given ++ piece) bytes →
       FitsPiece (stripe_of v 1) (wants_of v 1) piece last (job_of w.jobs 1)
-  fits w job name bytes runs kind follows =
-      (let p = piece-parts last given piece bytes follows in
+  fits w job name bytes runs kind follows = (let p = piece-parts last given piece bytes follows in
       subst (λ (o : Option Job). FitsPiece (stripe_of v 1) (wants_of v 1) piece last o) (sym runs)
       (subst (λ (kd : Kind). FitsKind (stripe_of v 1) (wants_of v 1) piece last kd) (sym kind)
       (subst (λ (o : Option ℕ). FitsKind (stripe_of v 1) o piece last (PutJob name bytes)) (sym wants)
@@ -111,8 +107,7 @@ module _ (old v next : Vault) (d e : Devices) (size k : ℕ) (given piece : List
       ((stripes : ℕ) → after ≡ Some stripes → stripes ≡ k + 1) →
       place ≡ 4 + k * (setup_in start).n → IsBehind start after place
   behind-next start place None is at = tt
-  behind-next start place (Some stripes) is at =
-      (let e = is stripes refl in
+  behind-next start place (Some stripes) is at = (let e = is stripes refl in
       let f = ap (λ n. n * (setup_in start).n) e in
       let g : (k + 1) * (setup_in start).n ≡ k * (setup_in start).n + (setup_in start).n = omega arith in
       omega (arith, at, f, g))
@@ -131,9 +126,8 @@ module _ (old v next : Vault) (d e : Devices) (size k : ℕ) (given piece : List
           are_steps = x.way.are_steps;
           only = x.way.only;
           place = x.way.place;
-          stands = gives (now w x.way.steps) e x.way.stands
-              (fits (now w x.way.steps) x.way.only.job name bytes
-              (found start x.way.only.opened (PutJob name bytes) (now w x.way.steps) x.way.only.job
+          stands = gives (now w x.way.steps) e x.way.stands (fits (now w x.way.steps) x.way.only.job name
+              bytes (found start x.way.only.opened (PutJob name bytes) (now w x.way.steps) x.way.only.job
               x.way.only.walked) x.way.only.walked.kind_is follows);
           front = x.way.front;
           beyond = x.way.beyond;
@@ -146,26 +140,23 @@ module _ (old v next : Vault) (d e : Devices) (size k : ℕ) (given piece : List
 
 -- what the vault's steps say
 abbrev pub Went : Vault → Devices → Option ℕ → Option Ended → Vault → Devices → Type 0
-Went v e told ended next f =
-    (start w : State) (kind : Kind) (own : Option ℕ) (moment : ℕ) (d : Devices)
-    → (way : OnWay start kind own w moment v d e) → IsBehind start told way.only.job.place
-    → AdvancesTo start kind own w moment told ended next d f
+Went v e told ended next f = (start w : State) (kind : Kind) (own : Option ℕ) (moment : ℕ) (d : Devices) →
+    (way : OnWay start kind own w moment v d e) → IsBehind start told way.only.job.place →
+    AdvancesTo start kind own w moment told ended next d f
 
 -- up to where it waits
 pub fed-on : (old v next : Vault) (d e f : Devices) (told : Option ℕ) (last : Bool) (given : List ℕ) →
-    IsFed old d v e told last given → Went v e told None next f →
-    is_some (wants_of next 1) ≡ true → (k : ℕ) → told_of next 1 ≡ Some k →
-    IsFed old d next f (Some k) last given
+    IsFed old d v e told last given → Went v e told None next f → is_some (wants_of next 1) ≡ true → (k : ℕ) →
+    told_of next 1 ≡ Some k → IsFed old d next f (Some k) last given
 fed-on old v next d e f told last given fed went waits k is start w name bytes own moment follows only place stands =
     (let x = fed start w name bytes own moment follows only place stands in
     let y = went start w (PutJob name bytes) own moment d x.way x.behind in
     let at = waits-at start (PutJob name bytes) own (now w y.steps) next f y.only y.stands waits in
-    let same : at.stripes ≡ k =
-    (let e : Some at.stripes ≡ Some k = sym at.told_is ∙ is in let g : at.stripes ≡ k = cc in g) in
     record {
       way = y;
-      behind = (let p = at.place_is in let q = ap (λ n. n * (setup_in start).n) same in
-          omega (arith, p, q));
+      behind = let q = ap (λ n. n * (setup_in start).n) (let e : Some at.stripes ≡ Some k = sym at.told_is ∙
+          is in let g : at.stripes ≡ k = cc in g) in
+          omega (arith, at.place_is, q);
     })
 
 -- up to its end
@@ -194,6 +185,5 @@ pub fed-place : (v : Vault) (f : Devices) (start w : State) (kind : Kind) (own :
     only.job.place ≡ 4 + k * (setup_in start).n
 fed-place v f start w kind own only stands k wants =
     (let at = waits-at start kind own w v f only stands (ap is_some wants) in
-    let same : at.stripes ≡ k =
-    (let e : Some at.stripes ≡ Some k = sym at.wanted_is ∙ wants in let g : at.stripes ≡ k = cc in g) in
-    at.place_is ∙ ap (λ n. 4 + n * (setup_in start).n) same)
+    at.place_is ∙ ap (λ n. 4 + n * (setup_in start).n) (let e : Some at.stripes ≡ Some k = sym at.wanted_is ∙
+    wants in let g : at.stripes ≡ k = cc in g))

@@ -40,22 +40,21 @@ pub waits-first : (old next : Vault) (d f : Devices) (size : ℕ) (stripe : List
 waits-first old next d f size stripe count was S begun room few bytes end opened went waits kept =
     (let x = fed-waits-on old old next d d f size (told_of old 1) false [] (fed-first old d (told_of old 1)) went
     (begun [] refl (omega arith)) waits in
-    let zero_is : x.0 ≡ 0 =
-    (let e : Some x.0 ≡ Some 0 = sym x.1 ∙ (kept ∙ opened) in let g : x.0 ≡ 0 = cc in g) in
     record {
       k = 0;
       given = [];
       more = [];
-      length_is = (let e : 0 ≡ 0 * size = omega arith in e);
+      length_is = (omega arith);
       within = omega arith;
       room = room;
       few = few;
       read_is = omega arith;
-      limit = (let m = S.most in omega (arith, m, few));
+      limit = omega (arith, S.most, few);
       parts = sym (append-nil (take count stripe));
       reads = reads-none was;
-      bytes = subst AreBytes (sym (append-nil (take count stripe))) (bytes-front count stripe bytes);
-      wants = x.2 ∙ ap (λ (n : ℕ). Some n) zero_is;
+      bytes = rw (← (append-nil (take count stripe))) at (bytes-front count stripe bytes);
+      wants = x.2 ∙ ap (λ n. Some n) (let e : Some x.0 ≡ Some 0 = sym x.1 ∙ (kept ∙ opened) in
+          let g : x.0 ≡ 0 = cc in g);
       fed = fed-on old old next d d f (told_of old 1) false [] (fed-first old d (told_of old 1)) went waits 0
           (kept ∙ opened);
       end = λ short low. end short;
@@ -99,8 +98,7 @@ module _ {first : List ℕ} {size : ℕ} {old : Vault} {d : Devices} {v : Vault}
 
   -- no whole stripes and one byte more are as many as a file may have, and one
   no-seam : (k size symbols : ℕ) → size ≡ 16 * symbols → k * size + size ≡ 4194305 → ⊥
-  no-seam k size symbols is at =
-      (let a : (k + 1) * (16 * symbols) ≡ 16 * ((k + 1) * symbols) = omega arith in
+  no-seam k size symbols is at = (let a : (k + 1) * (16 * symbols) ≡ 16 * ((k + 1) * symbols) = omega arith in
       let b : k * size + size ≡ (k + 1) * size = omega arith in
       let c = ap (λ n. (k + 1) * n) is in
       omega (arith, a, b, c, at))
@@ -146,9 +144,6 @@ module _ {first : List ℕ} {size : ℕ} {old : Vault} {d : Devices} {v : Vault}
     last_is : last ≡ nat_lt count size
     last_is = ap (nat_lt count) W.room
 
-    short-if : last ≡ true → count < size
-    short-if e = ltb-true count size (sym last_is ∙ e)
-
     full-if : last ≡ false → count ≡ size
     full-if e = elim (cases_lt count size) [
       | inl l ↦ absurd (let f = sym (lt-ltb count size l) ∙ (sym last_is ∙ e) in cc)
@@ -179,12 +174,8 @@ module _ {first : List ℕ} {size : ℕ} {old : Vault} {d : Devices} {v : Vault}
       told-next stripes is = by last refl
         where
           by : (b : Bool) → last ≡ b → (last ≡ false) × (stripes ≡ W.k + 1)
-          by true e = absurd (let f : None ≡ Some stripes = sym (closed e) ∙ is in cc)
-          by false e = (
-            e,
-            (let f : Some stripes ≡ Some (W.k + 1) = sym is ∙ more_is W.k W.wants e in
-                let g : stripes ≡ W.k + 1 = cc in g),
-          )
+          by true e = absurd (cc (sym (closed e) ∙ is))
+          by false e = (e, (let f = sym is ∙ more_is W.k W.wants e in cc))
 
       fed-next : IsFed old d next e (told_of next 1) last (W.given ++ piece)
       fed-next = fed-given old v next d e size W.k W.given piece last (Some W.k) (told_of next 1) W.fed W.length_is
@@ -208,9 +199,10 @@ module _ {first : List ℕ} {size : ℕ} {old : Vault} {d : Devices} {v : Vault}
         few = low;
         told = told_of next 1;
         given = by (told_of next 1) refl;
-        closed = λ none. W.end (short-if (closed-if none)) low;
+        closed = λ none. W.end (ltb-true count size (sym last_is ∙ (closed-if none))) low;
         goes = λ start w name own moment only place stands.
-            fed-end old next final d e f (told_of next 1) last (W.given ++ piece) ended fed-next went start w name
+            fed-end old next final d e f (told_of next 1) last (W.given ++ piece) ended fed-next went start w
+            name
             (first ++ W.more) own moment
             (subst (λ bs. Follows last (W.given ++ piece) bs) W.parts (follows-itself last (W.given ++ piece)))
             only place stands;
@@ -218,8 +210,7 @@ module _ {first : List ℕ} {size : ℕ} {old : Vault} {d : Devices} {v : Vault}
         where
           by : (o : Option ℕ) → told_of next 1 ≡ o → IfSome o (λ stripes. stripes * size ≤ read)
           by None is = tt
-          by (Some stripes) is =
-              (let t = told-next stripes is in let c = full-if t.0 in let r = W.read_is in
+          by (Some stripes) is = (let t = told-next stripes is in let c = full-if t.0 in let r = W.read_is in
               let m = ap (λ n. n * size) t.1 in
               let g : (W.k + 1) * size ≡ W.k * size + size = omega arith in
               omega (arith, c, r, m, g))
@@ -254,9 +245,8 @@ module _ {first : List ℕ} {size : ℕ} {old : Vault} {d : Devices} {v : Vault}
             let g : (W.k + 1) * size ≡ W.k * size + size = omega arith in omega (arith, c, x, g))
 
         fed-last : IsFed old d final f (Some (W.k + 1)) false (W.given ++ piece)
-        fed-last = subst (λ b. IsFed old d final f (Some (W.k + 1)) b (W.given ++ piece)) its.0
-            (fed-on old next final d e f (told_of next 1) last (W.given ++ piece) fed-next went waits (W.k + 1)
-            (at.1 ∙ ap (λ (n : ℕ). Some n) its.1))
+        fed-last = rw its.0 at (fed-on old next final d e f (told_of next 1) last (W.given ++ piece) fed-next
+            went waits (W.k + 1) (at.1 ∙ ap (λ (n : ℕ). Some n) its.1))
 
         -- the next piece was read
         pub waits-next : (after : List ℕ) (more : ℕ) (rest : Option (List ℕ)) → length after ≡ size →

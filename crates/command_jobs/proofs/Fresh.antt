@@ -73,18 +73,15 @@ fresh-vault there {v} {told} {holds} {faults} s =
 pub fresh-setup : ThereIsOne → (v : Vault) (area : Area) (records : List Record) (holds : Option Cells)
     (faults : ℕ) → IsFreshOver v area records holds faults →
     with_master (vault_setup v) (master_of v) ≡ setup_in_effect records
-fresh-setup there v area records holds faults F =
-    (let ps : List Provider = replicate (setup_in_effect records).n nobody in
-    let few : (setup_in_effect records).n ≤ length ps =
-    (let e = length-replicate (setup_in_effect records).n nobody in omega (arith, e)) in
-    let x = there-opened there area records faults ps F.read few in
+fresh-setup there v area records holds faults F = (let ps = replicate (setup_in_effect records).n nobody in
+    let x = there-opened there area records faults ps F.read (let e = length-replicate
+    (setup_in_effect records).n nobody in omega (arith, e)) in
     sym (F.stands x.0 ps x.1).desk.setup ∙ setup-over x.0 area records faults ps x.1)
 
 -- a vault that stands for a state uses no more providers than are handed in
 pub stands-enough : (v : Vault) (d : Devices) (w : State) → Stands v d w →
     provider_count v ≤ length d.providers
-stands-enough v d w S =
-    (let a = S.desk.core.sound.handed S.desk.core.is_open in
+stands-enough v d w S = (let a = S.desk.core.sound.handed S.desk.core.is_open in
     let b = S.desk.devices.providers.count in
     let c = ap (λ (z : Setup). z.n) S.desk.setup in
     omega (arith, a, b, c))

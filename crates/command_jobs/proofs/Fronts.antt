@@ -1,5 +1,5 @@
 -- What a disk reads in front of the active area stays, whatever a job's append does.
-use Rattle.command_jobs.proofs.Words.{◌≡◌, ℕ, Bool, ◌+◌, ◌-◌, ◌≤◌, min, zero, suc, true, false, List, [], ◌∷◌, ◌++◌, length, take, drop, replicate, Option, Some, None, refl, ap, sym, subst, ◌∙◌, inl, inr, arith, IfSome, option_map, cases_Bool, false≢true, length-append, length-drop, length-take-le, take-append-drop, take-append-le, take-map, Cells, reads, firm, loose, spliced, written, synced, Torn, Goes, reads-firm, Record, Area, base_of, entries, IsAfterMoves, cells_after, MayTear, Action, WriteBody, SyncBody, WriteGate, SyncGate, State, CoreIs, ComesNext, Coming, is_move, calls_disk, next_in, entry_in, CoreView, wants_in, moves_before_next, EndsCells, MovesCells, closed_gate_of, coming_of, vault_entry, Stands, wants_of, Turn, Vault, Devices, SameUpTo}
+use Rattle.command_jobs.proofs.Words.{◌≡◌, ℕ, Bool, ◌+◌, ◌-◌, ◌≤◌, min, zero, suc, true, false, List, [], ◌∷◌, ◌++◌, length, take, drop, replicate, Option, Some, None, refl, ap, sym, subst, ◌∙◌, inl, inr, arith, IfSome, option_map, cases_Bool, false≢true, length-append, length-drop, length-take-le, take-append-drop, take-append-le, take-map, Cells, reads, firm, loose, spliced, written, Torn, Goes, reads-firm, Record, Area, base_of, entries, IsAfterMoves, cells_after, MayTear, Action, WriteBody, SyncBody, WriteGate, SyncGate, State, CoreIs, ComesNext, Coming, is_move, calls_disk, next_in, entry_in, CoreView, wants_in, moves_before_next, EndsCells, MovesCells, closed_gate_of, coming_of, vault_entry, Stands, wants_of, Turn, Vault, Devices, SameUpTo}
 use Rattle.record_defs.specs.Spellings.{spelling}
 use Rattle.machine_defs.specs.States as states
 use Rattle.vault_core.specs.Coming.{Acts}
@@ -28,37 +28,27 @@ same-cells k old new is = take-map (λ c. c.0) k new ∙ (ap reads is ∙ sym (t
 
 front-written : (k at : ℕ) (bytes : List ℕ) (old : Cells) → k ≤ at → k ≤ length old →
     SameUpTo k old (written at bytes old)
-front-written k at bytes old low long = same-cells k old _
-    (take-spliced k (min at (length old)) (loose (replicate (at - length old) 0 ++ bytes)) old
-    (omega (arith, low, long)) (omega arith))
+front-written k at bytes old low long = same-cells k old _ (take-spliced k (min at (length old))
+    (loose (replicate (at - length old) 0 ++ bytes)) old (omega (arith, low, long)) (omega arith))
 
 front-torn : (k at n : ℕ) (old new : Cells) → k ≤ at → k ≤ length old → Torn at n old new → SameUpTo k old new
-front-torn k at n old new low long torn = same-cells k old new
-    (ap (λ (c : Cells). take k c) torn.held
+front-torn k at n old new low long torn = same-cells k old new (ap (λ (c : Cells). take k c) torn.held
     ∙ take-spliced k (min at (length old)) (loose torn.bytes) old (omega (arith, low, long)) (omega arith))
-
-front-synced : (k : ℕ) (old : Cells) → SameUpTo k old (synced old)
-front-synced k old = ap (λ (l : List ℕ). take k l) (reads-firm (reads old))
-
-front-alike : (k : ℕ) (old new : Cells) → new ≡ old → SameUpTo k old new
-front-alike k old new e = ap (λ (c : Cells). take k (reads c)) e
 
 -- ---- what a move of an append leaves
 
 front-moved : (k n gate : ℕ) (body : List ℕ) (old : Cells) → k ≤ gate → k ≤ length old →
     SameUpTo k old (cells_after n gate body old)
-front-moved k zero gate body old low long = front-written k (gate + 1) body old (omega (arith, low)) long
-front-moved k (suc zero) gate body old low long = front-synced k old
+front-moved k zero gate body old low long = front-written k (gate + 1) body old (omega arith) long
 front-moved k (suc (suc zero)) gate body old low long = front-written k gate (1 ∷ []) old low long
-front-moved k (suc (suc (suc n))) gate body old low long = front-synced k old
+front-moved k (suc _) gate body old low long = ap (λ l. take k l) (reads-firm (reads old))
 
 front-tears : (k n gate : ℕ) (body : List ℕ) (old new : Cells) → k ≤ gate → k ≤ length old →
     MayTear n gate body old new → SameUpTo k old new
 front-tears k zero gate body old new low long torn =
-    front-torn k (gate + 1) (length body) old new (omega (arith, low)) long torn
-front-tears k (suc zero) gate body old new low long same = front-alike k old new same
+    front-torn k (gate + 1) (length body) old new (omega arith) long torn
 front-tears k (suc (suc zero)) gate body old new low long torn = front-torn k gate 1 old new low long torn
-front-tears k (suc (suc (suc n))) gate body old new low long same = front-alike k old new same
+front-tears k (suc _) gate body old new low long same = ap (λ c. take k (reads c)) same
 
 -- a disk that did not change reads as before
 pub front-still : (k : ℕ) (old new : Option Cells) → new ≡ old → Goes (SameUpTo k) old new
@@ -76,8 +66,7 @@ module _ (k n gate : ℕ) (body : List ℕ) (low : k ≤ gate) where
       Goes (MayTear n gate body) old new → Goes (SameUpTo k) old new
   front-failed None None long g = tt
   front-failed (Some old) (Some new) long g = front-tears k n gate body old new low long g
-  front-failed None (Some new) long g = absurd g
-  front-failed (Some old) None long g = absurd g
+  front-failed _ _ long g = absurd g
 
   front-ends : (a : Answer) (old new : Option Cells) → IfSome old (λ cells. k ≤ length cells) →
       EndsCells n gate body a old new → Goes (SameUpTo k) old new
@@ -96,10 +85,7 @@ module _ (k n gate : ℕ) (body : List ℕ) (low : k ≤ gate) where
 behind-more : (k : ℕ) (cells : Cells) (front : List ℕ) (c : ℕ × Bool) (rest : Cells) →
     drop k cells ≡ firm front ++ c ∷ rest → k ≤ length cells
 behind-more k cells front c rest e =
-    let a = length-drop k cells in
-    let b = ap (λ (x : Cells). length x) e in
-    let d = length-append (firm front) (c ∷ rest) in
-    omega (arith, a, b, d)
+    omega (arith, length-drop k cells, ap (λ (x : Cells). length x) e, length-append (firm front) (c ∷ rest))
 
 moved-more : (n k : ℕ) (cells : Cells) (front body : List ℕ) → IsAfterMoves n front body (drop k cells) →
     k ≤ length cells
@@ -146,8 +132,7 @@ entry-there c w k is free calls = by (entry_in c k) refl
   where
     by : (o : Option Record) → entry_in c k ≡ o → (entry : Record) × (entry_in c k ≡ Some entry)
     by (Some entry) e = (entry, e)
-    by None e =
-        (let m = move-next c w k is free (next_in c k) refl calls in
+    by None e = (let m = move-next c w k is free (next_in c k) refl calls in
         let n = entry_machine c w k None is free (sym e) m.1.0.job m.1.0.runs in
         absurd (false≢true (sym n ∙ (ap is_move m.1.0.comes ∙ m.1.1))))
 
@@ -160,11 +145,10 @@ pub step-front : (v : Vault) (d : Devices) (new : Option Cells) (w : State) (num
 step-front v d new w number t stands free still moves = elim (cases_Bool (calls_disk (coming_of v number))) [
   | inl calls ↦ (let core = stands.desk.core in
       let there = entry-there v.desk.core w number core free calls in
-      let m = move-next v.desk.core w number core free (coming_of v number) refl calls in
-      let end = core.end in
       front-steps (base_of w.area) (moves_before_next (coming_of v number)) (closed_gate_of v)
-      (spelling there.0 ++ 0 ∷ []) (omega (arith, end)) t d.holds new
-      (flight-long v.desk.flight w.append w.area w.journal d.holds (stands.desk.flight m.1.0.unbarred))
+      (spelling there.0 ++ 0 ∷ []) (omega (arith, core.end)) t d.holds new
+      (flight-long v.desk.flight w.append w.area w.journal d.holds (stands.desk.flight
+      (move-next v.desk.core w number core free (coming_of v number) refl calls).1.0.unbarred))
       (moves there.0 there.1 calls))
   | inr none ↦ front-still (base_of w.area) d.holds new (still none)
 ]

@@ -1,5 +1,5 @@
 -- The only job of a vault, step by step.
-use Rattle.command_jobs.proofs.Words.{◌≡◌, ℕ, ◌+◌, ◌-◌, ◌≤◌, ◌⊎◌, List, [], ◌∷◌, length, drop, Option, Some, None, refl, ap, sym, subst, ◌∙◌, inl, inr, arith, option_map, IfSome, drop-drop, Cells, reads, Goes, Record, Area, base_of, end_in, Kind, job_of, Step, More, State, Append, setup_in, chosen, same_value, Happens, Moment, now, heard_by, outside, with_next, IsNext, SameAround, SameOutside, SameFrom, found, Keeps, WalkedOn, walk-on, IsWriting, Turn, Vault, Devices, records_in_flight, machine_answer, outcome_of, Stands, MakesStep, IsOnly, SameUpTo, OnWay, GoesToEnd}
+use Rattle.command_jobs.proofs.Words.{◌≡◌, ℕ, ◌+◌, ◌-◌, ◌≤◌, ◌⊎◌, List, [], ◌∷◌, length, drop, Option, Some, None, refl, ap, sym, subst, ◌∙◌, inl, inr, arith, option_map, IfSome, drop-drop, Cells, reads, Goes, Record, Area, base_of, end_in, Kind, job_of, Step, More, State, Append, setup_in, chosen, same_value, Happens, Moment, now, heard_by, outside, with_next, IsNext, SameAround, SameOutside, SameFrom, found, Keeps, WalkedOn, walk-on, Turn, Vault, Devices, records_in_flight, machine_answer, outcome_of, Stands, MakesStep, IsOnly, SameUpTo, OnWay, GoesToEnd}
 use Rattle.machine_defs.specs.Jobs.{Job}
 use Rattle.machine_defs.specs.Answers as answer
 use Rattle.machine_defs.specs.Answers.{Answer}
@@ -35,8 +35,7 @@ goes-on-same m n (Some a) (Some b) None l h k = absurd k
 goes-further : (m n : ℕ) (a b : Option Cells) → m ≤ n → Goes (SameFrom m) a b → Goes (SameFrom n) a b
 goes-further m n None None l h = tt
 goes-further m n (Some a) (Some b) l h = drop-further m n (reads b) (reads a) l h
-goes-further m n None (Some b) l h = absurd h
-goes-further m n (Some a) None l h = absurd h
+goes-further m n _ _ l h = absurd h
 
 -- what is read in front of a place stays where it stays twice
 pub front-on : (k : ℕ) (a b c : Option Cells) → Goes (SameUpTo k) a b → Goes (SameUpTo k) b c →
@@ -53,8 +52,7 @@ pub outside-same : (area : Area) (rs : List Record) (a b : Option Cells) → Goe
     Goes (SameFrom (end_in area rs)) a b → option_map (outside area rs) b ≡ option_map (outside area rs) a
 outside-same area rs None None f h = refl
 outside-same area rs (Some a) (Some b) f h = λ i. Some (f i, h i)
-outside-same area rs None (Some b) f h = absurd h
-outside-same area rs (Some a) None f h = absurd h
+outside-same area rs _ _ f h = absurd h
 
 -- outside the text it reads as before, by how the job ended
 same-outside : (area : Area) (kind : Kind) (own : Option ℕ) (how : Answer) (before after : List Record) (a b : Option Cells) →
@@ -63,18 +61,9 @@ same-outside : (area : Area) (kind : Kind) (own : Option ℕ) (how : Answer) (be
     → (how ≡ answer.DiskFault → SameAround area kind own before after a b) →
     (how ≡ answer.Memory → SameAround area kind own before after a b) →
     SameOutside area kind own how before after a b
-same-outside area kind own answer.Put before after a b h d m = h (λ e. cc) (λ e. cc)
-same-outside area kind own (answer.Got bytes) before after a b h d m = h (λ e. cc) (λ e. cc)
-same-outside area kind own answer.Dropped before after a b h d m = h (λ e. cc) (λ e. cc)
-same-outside area kind own (answer.Audited number undecided counts) before after a b h d m = h (λ e. cc) (λ e. cc)
-same-outside area kind own (answer.Repaired number) before after a b h d m = h (λ e. cc) (λ e. cc)
-same-outside area kind own (answer.Lost stripe row) before after a b h d m = h (λ e. cc) (λ e. cc)
-same-outside area kind own (answer.ProviderFault j) before after a b h d m = h (λ e. cc) (λ e. cc)
 same-outside area kind own answer.DiskFault before after a b h d m = d refl
 same-outside area kind own answer.Memory before after a b h d m = m refl
-same-outside area kind own answer.Upgraded before after a b h d m = h (λ e. cc) (λ e. cc)
-same-outside area kind own (answer.Scrubbed stripes symbols blocks) before after a b h d m = h (λ e. cc) (λ e. cc)
-same-outside area kind own (answer.Packed length_before length_after) before after a b h d m = h (λ e. cc) (λ e. cc)
+same-outside area kind own _ before after a b h d m = h (λ e. cc) (λ e. cc)
 
 -- the record in flight, if one is
 abbrev flying : Option Append → Option Record
@@ -179,8 +168,7 @@ module _ (start : State) (kind : Kind) (own : Option ℕ) (w : State) (moment nu
       (M : MakesStep here (moment + length way.steps) number (turn.Done ended) next mid new) where
     happens : Happens 8 (moment + length way.steps) here (Step 1)
         (Ended (machine_answer ended.answer)) M.state
-    happens = subst (λ n. Happens 8 (moment + length way.steps) here (Step n)
-        (Ended (machine_answer ended.answer)) M.state) first M.happens
+    happens = rw first at M.happens
 
     kept : Keeps here M.state
     kept = step-keeps start way.only.opened kind here way.only.job way.only.walked
@@ -194,31 +182,24 @@ module _ (start : State) (kind : Kind) (own : Option ℕ) (w : State) (moment nu
         (machine_answer ended.answer ≡ answer.Memory → ⊥) →
         option_map (outside start.area M.state.journal) new.holds
         ≡ option_map (outside start.area M.state.journal) old.holds
-    past_end d m =
-        (let s = step-ends start way.only.opened kind here way.only.job way.only.walked
+    past_end d m = (let s = step-ends start way.only.opened kind here way.only.job way.only.walked
         (moment + length way.steps) (machine_answer ended.answer) M.state d m happens in
-        let before : Goes (SameFrom (end_in M.state.area M.state.journal)) old.holds mid.holds =
+        let before =
         subst (λ n. Goes (SameFrom n) old.holds mid.holds) (same_end s.2)
-        (subst (λ (o : Option Append). Goes (SameFrom (flight_end here.area here.journal o))
-        old.holds mid.holds) s.0 way.beyond) in
-        let after : Goes (SameFrom (end_in M.state.area M.state.journal)) mid.holds new.holds =
-        subst (λ (o : Option Append). Goes (SameFrom (flight_end M.state.area M.state.journal o))
-        mid.holds new.holds) s.1
-        (M.beyond (λ e. d (same-answer (machine_answer ended.answer) answer.DiskFault e))) in
-        subst (λ a. option_map (outside a M.state.journal) new.holds ≡ option_map (outside a M.state.journal) old.holds)
-        (kept.area ∙ way.only.area)
-        (outside-same M.state.area M.state.journal old.holds new.holds
+        (rw s.0 at way.beyond) in
+        let after =
+        rw s.1 at (M.beyond (λ e. d (same-answer (machine_answer ended.answer) answer.DiskFault e))) in
+        (rw (kept.area ∙ way.only.area) at (outside-same M.state.area M.state.journal old.holds new.holds
         (front_all front M.state.area (kept.area ∙ way.only.area))
         (goes-on-same (end_in M.state.area M.state.journal) (end_in M.state.area M.state.journal) old.holds
-        mid.holds new.holds (omega arith) before after)))
+        mid.holds new.holds (omega arith) before after))))
       where
         same-answer : (a b : Answer) → Ended a ≡ Ended b → a ≡ b
         same-answer a b e = cc
 
     one_end : (how : Answer) → machine_answer ended.answer ≡ how →
         Happens 8 (moment + length way.steps) here (Step 1) (Ended how) M.state
-    one_end how e = subst
-        (λ (x : Answer). Happens 8 (moment + length way.steps) here (Step 1) (Ended x) M.state) e happens
+    one_end how e = rw e at happens
 
     -- what comes next over the history comes next over the journal
     next_here : (entry : Record) → IsNext kind own start.records here.records entry →
@@ -230,37 +211,32 @@ module _ (start : State) (kind : Kind) (own : Option ℕ) (w : State) (moment nu
     behind_here : M.state.records ≡ here.records →
         SameAround here.area kind own start.journal here.journal old.holds new.holds →
         SameAround start.area kind own start.journal M.state.journal old.holds new.holds
-    behind_here e h = subst (λ rs. SameAround start.area kind own start.journal rs old.holds new.holds)
-        (sym (same-journal here M.state kept e))
+    behind_here e h = rw (← (same-journal here M.state kept e)) at
         (subst (λ a. SameAround a kind own start.journal here.journal old.holds new.holds) way.only.area h)
 
     past_fault : machine_answer ended.answer ≡ answer.DiskFault →
         SameAround start.area kind own start.journal M.state.journal old.holds new.holds
-    past_fault e =
-        (let T = M.torn (ap Ended e) in
+    past_fault e = (let T = M.torn (ap Ended e) in
         let same = fault-records start way.only.opened kind own here way.only.job way.only.walked
         (moment + length way.steps) M.state (one_end answer.DiskFault e) in
         let next = next_here T.entry (next-written start way.only.opened kind own here way.only.job
-        way.only.walked T.entry (subst (λ n. IsWriting here n T.entry) first T.writing)) in
-        let both = goes-on-same (flight_end here.area here.journal here.append)
-        (end_in here.area (T.entry ∷ here.journal)) old.holds mid.holds new.holds
-        (flying-le here.area here.journal T.entry here.append T.in_flight) way.beyond T.same in
+        way.only.walked T.entry (rw first at T.writing)) in
         behind_here same (record {
           next = Some T.entry;
           is_next = next;
           same = outside-same here.area (T.entry ∷ here.journal) old.holds new.holds
-              (front_all front here.area way.only.area) both;
+              (front_all front here.area way.only.area) (goes-on-same (flight_end here.area here.journal
+              here.append) (end_in here.area (T.entry ∷ here.journal)) old.holds mid.holds new.holds
+              (flying-le here.area here.journal T.entry here.append T.in_flight) way.beyond T.same);
         }))
 
     past_memory : machine_answer ended.answer ≡ answer.Memory →
         SameAround start.area kind own start.journal M.state.journal old.holds new.holds
-    past_memory e =
-        (let c = memory-clears start way.only.opened kind own here way.only.job way.only.walked
+    past_memory e = (let c = memory-clears start way.only.opened kind own here way.only.job way.only.walked
         (moment + length way.steps) M.state (one_end answer.Memory e) in
         let last : Goes (SameFrom (end_in here.area here.journal)) mid.holds new.holds =
         subst (λ n. Goes (SameFrom n) mid.holds new.holds) (sym (same_end c.0))
-        (subst (λ (o : Option Append). Goes (SameFrom (flight_end M.state.area M.state.journal o))
-        mid.holds new.holds) c.1 (M.beyond (λ f. no_fault (machine_answer ended.answer) e f))) in
+        (rw c.1 at (M.beyond (λ f. no_fault (machine_answer ended.answer) e f))) in
         behind_here c.0 (by_flight here.append refl last))
       where
         no_fault : (a : Answer) → a ≡ answer.Memory → Ended a ≡ Ended answer.DiskFault → ⊥
@@ -279,19 +255,15 @@ module _ (start : State) (kind : Kind) (own : Option ℕ) (w : State) (moment nu
         by_flight : (o : Option Append) → here.append ≡ o →
             Goes (SameFrom (end_in here.area here.journal)) mid.holds new.holds →
             SameAround here.area kind own start.journal here.journal old.holds new.holds
-        by_flight o is last =
-            (let beyond : Goes (SameFrom (flight_end here.area here.journal o)) old.holds
-            mid.holds = subst (λ (x : Option Append). Goes
-            (SameFrom (flight_end here.area here.journal x)) old.holds mid.holds) is way.beyond in
+        by_flight o is last = (let beyond : Goes (SameFrom (flight_end here.area here.journal o)) old.holds
+            mid.holds = rw is at way.beyond in
             let on = goes-further (end_in here.area here.journal)
             (flight_end here.area here.journal o) mid.holds new.holds (flight-le o) last in
             record {
               next = flying o;
               is_next = flight-next o is;
               same = outside-same here.area (with_next (flying o) here.journal) old.holds new.holds
-                  (front_all front here.area way.only.area)
-                  (subst (λ rs. Goes (SameFrom (end_in here.area rs)) old.holds new.holds)
-                  (flying-same here.journal o)
+                  (front_all front here.area way.only.area) (rw (flying-same here.journal o) at
                   (goes-on-same (flight_end here.area here.journal o) (flight_end here.area here.journal o)
                   old.holds mid.holds new.holds (omega arith) beyond on));
             })
@@ -320,15 +292,9 @@ module _ (start : State) (kind : Kind) (own : Option ℕ) (w : State) (moment nu
 pub never-stops : (r : Turn) → ((holder : ℕ) × (r ≡ turn.Waiting holder)) ⊎
     ((r ≡ turn.NoSuchJob) ⊎ (r ≡ turn.MustReopen)) →
     (outcome_of r ≡ More) ⊎ ((how : Answer) × (outcome_of r ≡ Ended how)) → ⊥
-never-stops r (inl (holder, e)) (inl f) =
-    (let g : outcome_of (turn.Waiting holder) ≡ More = sym (ap outcome_of e) ∙ f in cc)
-never-stops r (inl (holder, e)) (inr (how, f)) =
-    (let g : outcome_of (turn.Waiting holder) ≡ Ended how = sym (ap outcome_of e) ∙ f in cc)
-never-stops r (inr (inl e)) (inl f) =
-    (let g : outcome_of turn.NoSuchJob ≡ More = sym (ap outcome_of e) ∙ f in cc)
-never-stops r (inr (inl e)) (inr (how, f)) =
-    (let g : outcome_of turn.NoSuchJob ≡ Ended how = sym (ap outcome_of e) ∙ f in cc)
-never-stops r (inr (inr e)) (inl f) =
-    (let g : outcome_of turn.MustReopen ≡ More = sym (ap outcome_of e) ∙ f in cc)
-never-stops r (inr (inr e)) (inr (how, f)) =
-    (let g : outcome_of turn.MustReopen ≡ Ended how = sym (ap outcome_of e) ∙ f in cc)
+never-stops r (inl (holder, e)) (inl f) = (cc (sym (ap outcome_of e) ∙ f))
+never-stops r (inl (holder, e)) (inr (how, f)) = (cc (sym (ap outcome_of e) ∙ f))
+never-stops r (inr (inl e)) (inl f) = (cc (sym (ap outcome_of e) ∙ f))
+never-stops r (inr (inl e)) (inr (how, f)) = (cc (sym (ap outcome_of e) ∙ f))
+never-stops r (inr (inr e)) (inl f) = (cc (sym (ap outcome_of e) ∙ f))
+never-stops r (inr (inr e)) (inr (how, f)) = (cc (sym (ap outcome_of e) ∙ f))

@@ -1,6 +1,6 @@
 -- The same records come on top of the journal and of the history, in the same area; what comes next over the
 -- history comes next over the journal.
-use Rattle.command_jobs.proofs.Words.{◌≡◌, ℕ, List, [], ◌∷◌, ◌++◌, reverse, length, Option, refl, ap, sym, ◌∙◌, append_cancel_right, Record, PutStart, AuditStart, AuditDone, RepairDone, AreAlike, done_record, chosen, due_number, Outcome, Step, Kind, PutJob, GetJob, DropJob, AuditJob, RepairJob, UpgradeJob, Happens, setup_or_none, State, setup_in, IsNext, IsNextRecord, IsOpenAtRest, WalkedAt, Keeps, acts-keep, IsOnly}
+use Rattle.command_jobs.proofs.Words.{◌≡◌, ℕ, List, [], ◌∷◌, ◌++◌, reverse, length, Option, refl, ap, sym, ◌∙◌, append_cancel_right, Record, PutStart, AuditStart, AuditDone, RepairDone, AreAlike, done_record, chosen, due_number, Outcome, Step, Kind, PutJob, GetJob, AuditJob, RepairJob, Happens, setup_or_none, State, setup_in, IsNext, IsNextRecord, IsOpenAtRest, WalkedAt, Keeps, acts-keep, IsOnly}
 use Rattle.std.proofs.lemmas.List.{append_assoc}
 use Rattle.machine_defs.specs.Jobs.{Job}
 use Rattle.command_jobs.proofs.Acting.{step-makes}
@@ -50,14 +50,10 @@ record-next own its before journal after now added next same a n h = record {
 pub next-alike : (kind : Kind) (own : Option ℕ) (before journal after now added : List Record) (next : Record) →
     AreAlike journal before → after ≡ added ++ before → now ≡ added ++ journal →
     IsNext kind own before after next → IsNext kind own journal now next
-next-alike (PutJob name bytes) own before journal after now added next alike a n h =
-    record-next _ _ before journal after now added next
-    (λ i. PutStart (sym alike.id i) name
-    ∷ done_record (sym alike.version i) (sym alike.id i) (length bytes)
-    (chosen (setup_or_none (sym alike.setup i)) own) ∷ []) a n h
+next-alike (PutJob name bytes) own before journal after now added next alike a n h = record-next _ _ before
+    journal after now added next (λ i. PutStart (sym alike.id i) name ∷ done_record (sym alike.version i)
+    (sym alike.id i) (length bytes) (chosen (setup_or_none (sym alike.setup i)) own) ∷ []) a n h
 next-alike (GetJob name) own before journal after now added next alike a n h = h
-next-alike (DropJob name) own before journal after now added next alike a n h =
-    record-next _ _ before journal after now added next refl a n h
 next-alike AuditJob own before journal after now added next alike a n (undecided, counts, many, h) = (
   undecided,
   counts,
@@ -65,8 +61,7 @@ next-alike AuditJob own before journal after now added next alike a n (undecided
   record-next _ _ before journal after now added next
       (λ i. AuditStart (sym alike.audit i) ∷ AuditDone (sym alike.audit i) undecided counts ∷ []) a n h,
 )
-next-alike RepairJob own before journal after now added next alike a n h =
-    record-next _ _ before journal after now added next
-    (λ i. RepairDone (due_number (sym alike.due i)) ∷ []) a n h
-next-alike UpgradeJob own before journal after now added next alike a n h =
-    record-next _ _ before journal after now added next refl a n h
+next-alike RepairJob own before journal after now added next alike a n h = record-next _ _ before journal
+    after now added next (λ i. RepairDone (due_number (sym alike.due i)) ∷ []) a n h
+next-alike _ own before journal after now added next alike a n h = record-next _ _ before journal after now
+    added next refl a n h

@@ -1,5 +1,5 @@
 -- What a pack leaves of a disk that was synced before, told by its steps.
-use Rattle.command_jobs.proofs.Words.{◌≡◌, ◌⊎◌, ℕ, zero, suc, ◌+◌, ◌<◌, ◌≤◌, List, [], ◌∷◌, ◌++◌, length, Option, Some, None, refl, sym, ap, subst, ◌∙◌, inl, inr, arith, add-one, IfSome, IsTrue, All, list_all, option_map, length-append, Cells, reads, firm, synced, Provider, Goes, reads-firm, Record, is_in_grammar, Area, A, B, other_area, base_of, end_in, entries, magic_front, packed, moved_on, MayBeTorn, IsWrite, to_of, text_of, moves_of, WritesText, setup_in_effect, nobody, devices, packed_on, EndsPackCells, PackAnswer, PackJob, Vault, IsFreshOver, FillsGap, KeepsAround, length-replicate, replicate}
+use Rattle.command_jobs.proofs.Words.{◌≡◌, ◌⊎◌, ℕ, zero, suc, ◌+◌, ◌<◌, ◌≤◌, List, [], ◌∷◌, ◌++◌, length, Option, Some, None, refl, sym, ap, subst, ◌∙◌, inl, inr, arith, add-one, IfSome, IsTrue, All, list_all, option_map, length-append, Cells, reads, firm, synced, Goes, reads-firm, Record, is_in_grammar, Area, A, B, other_area, base_of, end_in, entries, magic_front, packed, moved_on, MayBeTorn, IsWrite, to_of, text_of, moves_of, WritesText, setup_in_effect, nobody, devices, packed_on, EndsPackCells, PackAnswer, PackJob, Vault, IsFreshOver, FillsGap, KeepsAround, length-replicate, replicate}
 use Rattle.record_defs.proofs.Sizes.{length-entries}
 use Rattle.journal_core.specs.Texts.{StandsFirm}
 use Rattle.journal_pack.specs.declared.pack.Pack.{Pack}
@@ -18,12 +18,10 @@ OnDisk n at end cells here = OnCells n at end (reads cells) here
 
 pub starts-cells : (n at end : ℕ) (told holds : Option Cells) → n ≡ 0 → holds ≡ option_map synced told →
     IfSome holds (λ cells. 8 ≤ length cells) → Goes (OnDisk n at end) told holds
-starts-cells n at end None holds none is long =
-    subst (λ (o : Option Cells). Goes (OnDisk n at end) None o) (sym is) tt
-starts-cells n at end (Some cells) holds none is long =
-    subst (λ (o : Option Cells). Goes (OnDisk n at end) (Some cells) o) (sym is)
-    (subst (λ (k : ℕ). OnCells k at end (reads cells) (synced cells)) (sym none)
-    (refl, subst (λ (o : Option Cells). IfSome o (λ c. 8 ≤ length c)) is long))
+starts-cells n at end None holds none is long = subst (λ o. Goes (OnDisk n at end) None o) (sym is) tt
+starts-cells n at end (Some cells) holds none is long = subst (λ o. Goes (OnDisk n at end) (Some cells) o)
+    (sym is) (subst (λ k. OnCells k at end (reads cells) (synced cells)) (sym none)
+    (refl, subst (λ o. IfSome o (λ c. 8 ≤ length c)) is long))
 
 -- ---- a move
 
@@ -31,12 +29,11 @@ pub goes-cells : (n at : ℕ) (text : List ℕ) (switch : ℕ) (told old new : O
     Goes (OnDisk n at (at + length text)) told old → new ≡ option_map (moved_on n at text 7 switch) old →
     Goes (OnDisk (n + 1) at (at + length text)) told new
 goes-cells n at text switch None None new few low on is =
-    subst (λ (o : Option Cells). Goes (OnDisk (n + 1) at (at + length text)) None o) (sym is) tt
+    subst (λ o. Goes (OnDisk (n + 1) at (at + length text)) None o) (sym is) tt
 goes-cells n at text switch (Some cells) (Some old) new few low on is =
-    subst (λ (o : Option Cells). Goes (OnDisk (n + 1) at (at + length text)) (Some cells) o) (sym is)
-    (subst (λ (k : ℕ). OnCells k at (at + length text) (reads cells) (moved_on n at text 7 switch old))
-    (sym (add-one n))
-    (steps-cells n at text switch (reads cells) old few low on))
+    subst (λ o. Goes (OnDisk (n + 1) at (at + length text)) (Some cells) o) (sym is)
+    (subst (λ k. OnCells k at (at + length text) (reads cells) (moved_on n at text 7 switch old))
+    (sym (add-one n)) (steps-cells n at text switch (reads cells) old few low on))
 goes-cells n at text switch None (Some old) new few low on is = absurd on
 goes-cells n at text switch (Some cells) None new few low on is = absurd on
 
@@ -99,11 +96,6 @@ module _ (area : Area) (qs : List Record) (first p : Pack) (holds : Option Cells
   around-area bytes c x = subst (λ (k : ℕ). IsAround k (end_in area qs) (firm bytes) c) S.writes.to
       (subst (λ (k : ℕ). IsAround (to_of first) k (firm bytes) c) end-is x)
 
-  zeros-area : (bytes : List ℕ) (c : Cells) → HasZeros (to_of first) (to_of first + size) bytes c →
-      HasZeros (base_of area) (end_in area qs) bytes c
-  zeros-area bytes c z = subst (λ (k : ℕ). HasZeros k (end_in area qs) bytes c) S.writes.to
-      (subst (λ (k : ℕ). HasZeros (to_of first) k bytes c) end-is z)
-
   -- where a move failed
   torn-ends : (cells old new : Cells) → OnDisk (moves_of p) (to_of first) (to_of first + size) cells old →
       MayBeTorn (moves_of p) (to_of p) (length (text_of p)) 7 old new →
@@ -111,9 +103,8 @@ module _ (area : Area) (qs : List Record) (first p : Pack) (holds : Option Cells
   torn-ends cells old new on torn =
       let x = around-area (reads cells) new
       (torn-cells (moves_of p) (to_of first) size (reads cells) old new (starts-low area qs first S.writes) on
-      (subst (λ (k : ℕ). MayBeTorn (moves_of p) (to_of first) k 7 old new)
-      (ap (λ (l : List ℕ). length l) text)
-      (subst (λ (k : ℕ). MayBeTorn (moves_of p) k (length (text_of p)) 7 old new) to torn))) in
+      (rw (ap (λ (l : List ℕ). length l) text) at (subst (λ (k : ℕ). MayBeTorn (moves_of p) k
+      (length (text_of p)) 7 old new) to torn))) in
       λ image is. stays-torn area qs (reads cells) new x image is
 
   -- and else
@@ -122,11 +113,11 @@ module _ (area : Area) (qs : List Record) (first p : Pack) (holds : Option Cells
       KeepsAround area qs (λ gap. All (λ byte. byte ≡ 0) gap) cells old
   firm-ends cells old ends on =
       let f = firm-cells (moves_of p) (to_of first) (to_of first + size) (reads cells) old ends on in
-      let z = zeros-area (reads cells) old f.0 in
+      let z = rw S.writes.to at (subst (λ (k : ℕ). HasZeros (to_of first) k (reads cells) old) end-is f.0) in
       λ image is. (let s = stays-firm area qs (reads cells) old z.around image is f.1 in record {
         front = s.front;
         gap = s.gap;
-        fills = subst (λ (l : List ℕ). All (λ byte. byte ≡ 0) l) (sym s.fills) z.zeros;
+        fills = rw (← s.fills) at z.zeros;
         middle = s.middle;
         behind = s.behind;
       })
@@ -135,13 +126,11 @@ module _ (area : Area) (qs : List Record) (first p : Pack) (holds : Option Cells
       Goes (OnDisk (moves_of p) (to_of first) (to_of first + size)) told old → new ≡ old →
       Goes (KeepsAround area qs (λ gap. All (λ byte. byte ≡ 0) gap)) told new
   still-ends None None new ends on same =
-      subst (λ (o : Option Cells). Goes (KeepsAround area qs (λ gap. All (λ byte. byte ≡ 0) gap)) None o)
-      (sym same) tt
+      subst (λ o. Goes (KeepsAround area qs (λ gap. All (λ byte. byte ≡ 0) gap)) None o) (sym same) tt
   still-ends (Some cells) (Some old) new ends on same =
-      subst (λ (o : Option Cells). Goes (KeepsAround area qs (λ gap. All (λ byte. byte ≡ 0) gap)) (Some cells) o)
+      subst (λ o. Goes (KeepsAround area qs (λ gap. All (λ byte. byte ≡ 0) gap)) (Some cells) o)
       (sym same) (firm-ends cells old ends on)
-  still-ends None (Some old) new ends on same = absurd on
-  still-ends (Some cells) None new ends on same = absurd on
+  still-ends _ _ new ends on same = absurd on
 
   -- so a pack that ended leaves the disk around its text as it was
   pub ends-cells : (how : PackAnswer) (told old new : Option Cells) →
@@ -168,24 +157,20 @@ named-long area rs cells s =
 first-long : (area : Area) (rs qs : List Record) (n : ℕ) (holds : Option Cells) → n ≡ 0 →
     IfSome holds (IsAfterPack n area rs qs) → IfSome holds (λ cells. 8 ≤ length cells)
 first-long area rs qs n None none is = tt
-first-long area rs qs n (Some cells) none is =
-    named-long area rs cells (subst (λ (k : ℕ). IsAfterPack k area rs qs cells) none is)
+first-long area rs qs n (Some cells) none is = named-long area rs cells (rw none at is)
 
 pub pack-starts : ThereIsOne → (v : Vault) (area : Area) (records : List Record) (holds : Option Cells)
     (faults : ℕ) → IsFreshOver v area records holds faults → (next : Vault) (job : PackJob) →
     PacksAs v job next → moves_of job.pack ≡ 0 →
     PackStarts (other_area area) (packed records) job.pack holds
 pack-starts there v area records holds faults F next job begins none =
-    let ps : List Provider = replicate (setup_in_effect records).n nobody in
-    let few : (setup_in_effect records).n ≤ length ps =
-    (let e = length-replicate (setup_in_effect records).n nobody in omega (arith, e)) in
-    let x = opened-one there v area records holds faults F ps few in
-    let on = (begins x.0 (devices holds faults ps) x.1.stands).2.on_way (omega (arith, none)) in
+    let ps = replicate (setup_in_effect records).n nobody in
+    let x = opened-one there v area records holds faults F ps (let e = length-replicate
+    (setup_in_effect records).n nobody in omega (arith, e)) in
+    let on = (begins x.0 (devices holds faults ps) x.1.stands).2.on_way (omega arith) in
     record {
-      writes = subst (λ (a : Area). WritesText (other_area a) (packed records) job.pack) x.1.over.area_is
-          (subst (λ (rs : List Record). WritesText (other_area x.0.area) (packed rs) job.pack)
-          x.1.over.journal on.writes);
-      in_grammar = subst (λ (rs : List Record). IsTrue (list_all is_in_grammar (packed rs)))
-          x.1.over.journal on.in_grammar;
+      writes = subst (λ a. WritesText (other_area a) (packed records) job.pack) x.1.over.area_is
+          (rw x.1.over.journal at on.writes);
+      in_grammar = rw x.1.over.journal at on.in_grammar;
       long = first-long x.0.area x.0.journal (packed x.0.journal) (moves_of job.pack) holds none on.disk;
     }

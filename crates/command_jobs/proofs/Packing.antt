@@ -1,8 +1,6 @@
 -- From the begin and the steps of a pack to what its command tells of it.
-use Rattle.command_jobs.proofs.Words.{◌≡◌, ℕ, ◌+◌, ◌≤◌, List, [], ◌∷◌, length, replicate, Option, Some, None, Ok, Err, refl, ap, sym, subst, ◌∙◌, inl, inr, arith, is_some, option_map, length-replicate, Cells, reads, Provider, Record, Area, Step, More, heard_by, job_of, Happens, Moment, now, StandsForState, State, pack_refusal, AreHanded, IsJustOpened, Seen, nobody, provider_at, setup_in_effect, AreSteps, GoesOnTo, pack-refusal-of, BeginFault, Devices, devices, PackAnswer, PackJob, Vault, pack_answer, pack_begun, StandsPacking, PacksOver, MakesPackStep, Stands, IsFreshOver, IsSeenBefore, IsSeenAfter, PackEndsOver, IsPackRefused}
+use Rattle.command_jobs.proofs.Words.{◌≡◌, ℕ, ◌+◌, ◌≤◌, List, [], ◌∷◌, length, replicate, Option, Some, None, Ok, Err, refl, ap, sym, subst, ◌∙◌, inl, inr, arith, is_some, option_map, length-replicate, Cells, reads, Provider, Record, Area, Step, More, heard_by, job_of, Moment, now, StandsForState, State, pack_refusal, AreHanded, IsJustOpened, Seen, nobody, provider_at, setup_in_effect, AreSteps, GoesOnTo, pack-refusal-of, BeginFault, Devices, devices, PackAnswer, PackJob, Vault, pack_answer, pack_begun, StandsPacking, PacksOver, MakesPackStep, Stands, IsFreshOver, IsSeenBefore, IsSeenAfter, PackEndsOver, IsPackRefused}
 use Rattle.machine_defs.specs.Answers.{Answer}
-use Rattle.machine_defs.specs.Events.{Ended}
-use Rattle.machine_defs.specs.Jobs.{Job}
 use Rattle.command_defs.specs.Opens as opens
 use Rattle.command_defs.specs.Packs.{RanPack, PacksAlone, PackedAlone}
 use Rattle.command_defs.specs.Refusals.{pack_refusal_over}
@@ -47,13 +45,7 @@ module _ (w : State) (number moment : ℕ) (v next : Vault) (job : PackJob) (d e
       OnPack w number moment next more e
   pack-more more M = record {
     steps = record { event = Step number; outcome = More; state = M.state } ∷ way.steps;
-    are_steps = (
-      refl,
-      refl,
-      subst (λ n. Happens 8 (moment + length way.steps) (now w way.steps) (Step n) More M.state) same
-          (M.happens 8 (moment + length way.steps)),
-      way.are_steps,
-    );
+    are_steps = (refl, refl, (rw same at (M.happens 8 (moment + length way.steps))), way.are_steps);
     stands = M.stands;
   }
 
@@ -65,9 +57,8 @@ module _ (w : State) (number moment : ℕ) (v next : Vault) (job : PackJob) (d e
     goes = record {
       steps = way.steps;
       are_steps = way.are_steps;
-      ends = subst (λ n. Happens 8 (moment + length way.steps) (now w way.steps) (Step n)
-          (Ended (pack_answer answer)) M.state) same (M.happens 8 (moment + length way.steps));
-      heard_is = ap (λ (js : List Job). heard_by (job_of js number)) (sym way.stands.beside.idle);
+      ends = rw same at (M.happens 8 (moment + length way.steps));
+      heard_is = ap (λ js. heard_by (job_of js number)) (sym way.stands.beside.idle);
     };
     stands = M.stands;
   }
@@ -85,10 +76,9 @@ pub pack-refused : ThereIsOne → (v : Vault) (area : Area) (records : List Reco
     (faults : ℕ) → IsFreshOver v area records holds faults → (next : Vault) (why : BeginFault) →
     ((w : State) (d : Devices) → Stands v d w → PacksOver w d (Err why) next) → IsPackRefused area records why
 pack-refused there v area records holds faults F next why refuses =
-    (let ps : List Provider = replicate (setup_in_effect records).n nobody in
-    let few : (setup_in_effect records).n ≤ length ps =
-    (let e = length-replicate (setup_in_effect records).n nobody in omega (arith, e)) in
-    let x = opened-one there v area records holds faults F ps few in
+    (let ps = replicate (setup_in_effect records).n nobody in
+    let x = opened-one there v area records holds faults F ps (let e = length-replicate
+    (setup_in_effect records).n nobody in omega (arith, e)) in
     elim (refuses x.0 (devices holds faults ps) x.1.stands).0 [
       | inl e ↦ inr (sym (pack-over x.0 area records faults ps x.1.over) ∙ e)
       | inr e ↦ inl e
@@ -111,8 +101,7 @@ module _ (there : ThereIsOne) (v : Vault) (records : List Record) (holds : Optio
 
   ran-pack : (w : State) (moment : ℕ) → IsJustOpened w R.area records 1 faults providers →
       RanPack records (pack_answer answer) old new w moment
-  ran-pack w moment over =
-      (let h = begins w (devices holds faults providers) (F.stands w providers over) in
+  ran-pack w moment over = (let h = begins w (devices holds faults providers) (F.stands w providers over) in
       let G = goes (pack_begun w) (moment + 1) h.2 in
       record {
         last = G.last;
@@ -124,8 +113,7 @@ module _ (there : ThereIsOne) (v : Vault) (records : List Record) (holds : Optio
         };
         images = subst (λ told. StandsForState told G.last) (sym A.disk) G.stands.desk.devices.images;
         faults_are = G.stands.desk.devices.faults ∙ sym A.faults;
-        handed = subst (λ (ps : List Provider). AreHanded ps G.last) (sym A.providers)
-            G.stands.desk.devices.providers;
+        handed = subst (λ ps. AreHanded ps G.last) (sym A.providers) G.stands.desk.devices.providers;
       })
 
   -- what a disk reads tells whether it tells
@@ -138,15 +126,13 @@ module _ (there : ThereIsOne) (v : Vault) (records : List Record) (holds : Optio
   packs-alone : PacksAlone R.area records (pack_answer answer) old new
   packs-alone = record {
     faults = faults;
-    before = (let b = B.faults in omega (arith, b));
+    before = let b = B.faults in omega arith;
     tells = ap is_some A.disk ∙ (tells ∙ told-alike holds old.disk B.reads);
-    ran = λ w moment over. ran-pack w moment
-        (subst (λ (ps : List Provider). IsJustOpened w R.area records 1 faults ps) B.providers over);
+    ran = λ w moment over. ran-pack w moment (rw B.providers at over);
   }
 
   unrefused : pack_refusal_over R.area records ≡ None
-  unrefused =
-      (let x = opened-one there v R.area records holds faults F providers enough in
+  unrefused = (let x = opened-one there v R.area records holds faults F providers enough in
       sym (pack-over x.0 R.area records faults providers x.1.over)
       ∙ (begins x.0 (devices holds faults providers) x.1.stands).0)
 

@@ -6,8 +6,7 @@ use Rattle.std.proofs.lemmas.Slice.{take-put_mid}
 use Rattle.std.proofs.lemmas.List.Folds.{list_all-append}
 
 pub bytes-append : (xs ys : List ℕ) → AreBytes xs → AreBytes ys → AreBytes (xs ++ ys)
-bytes-append xs ys a b =
-    list_all-append is_byte xs ys ∙ (ap (λ t. t && list_all is_byte ys) a ∙ b)
+bytes-append xs ys a b = list_all-append is_byte xs ys ∙ (ap (λ t. t && list_all is_byte ys) a ∙ b)
 
 pub bytes-front : (n : ℕ) (xs : List ℕ) → AreBytes xs → AreBytes (take n xs)
 bytes-front n xs h =
@@ -46,8 +45,7 @@ reads-on was mid left xs ys a b = record {
 -- so many bytes more lie behind those before
 pub put-more : (a k g : ℕ) (xs ys : List ℕ) → a ≤ length xs → length ys ≡ k → g ≤ k →
     take (a + g) (put_mid a k xs ys) ≡ take a xs ++ take g ys
-put-more a k g xs ys l e few =
-    sym (take-take (a + g) (a + length ys) (put_mid a k xs ys) (omega (arith, e, few)))
+put-more a k g xs ys l e few = sym (take-take (a + g) (a + length ys) (put_mid a k xs ys) (omega arith))
     ∙ (ap (take (a + g)) (take-put_mid a k xs ys (a + length ys) refl l)
     ∙ (ap (λ n. take (n + g) (take a xs ++ ys)) (sym (length-take-le a xs l))
     ∙ take-append-add (take a xs) ys g))

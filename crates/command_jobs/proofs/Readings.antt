@@ -7,7 +7,7 @@ use Rattle.vault_open.specs.declared.fault.StartFault.TheVariants as start_fault
 use Rattle.vault_open.specs.Causes.{IsStartFault}
 use Rattle.vault_open.specs.Disks.{ReadsDisk, StartsOver}
 use Rattle.vault_open.proofs.Stores.{reads-as}
-use Rattle.command_jobs.specs.Opened.{HasJudged}
+use Rattle.command_jobs.specs.Opened.{HasReadStore}
 use Rattle.command_jobs.specs.declared.open.Unopened.TheVariants as unopened
 
 -- records that a disk reads are records of a journal
@@ -29,7 +29,7 @@ fault-seen told handed start_fault.Memory h = tt
 -- a start that fails reads the disk as an opening does that fails for the same cause
 pub unopened-reads : {T U : Type 0} {old new : Option Cells} {f g : ℕ} (why : StartFault) →
     StartsOver {T = T} old new f g (Err why) →
-    ReadsDisk old new f g (HasJudged {T = U} (Err (unopened_of why)))
+    ReadsDisk old new f g (HasReadStore {T = U} (Err (unopened_of why)))
     (IsErrOf {T = U} (Err (unopened_of why)) unopened.DiskFault)
 unopened-reads start_fault.DiskFault start = reads-as (λ j. j) (λ e. refl) (λ e. refl) start.disk
 unopened-reads start_fault.NotSetUp start = reads-as (λ j. j) (λ e. absurd cc) (λ e. absurd cc) start.disk
@@ -41,11 +41,10 @@ unopened-reads start_fault.Memory start = reads-as (λ j. j) (λ e. absurd cc) (
 pub reads-resynced : (old new : Option Cells) → Goes IsResynced old new →
     option_map reads new ≡ option_map reads old
 reads-resynced None None h = refl
-reads-resynced None (Some new) h = absurd h
-reads-resynced (Some old) None h = absurd h
 reads-resynced (Some old) (Some new) (inl e) = ap (λ cells. Some (reads cells)) e
 reads-resynced (Some old) (Some new) (inr e) =
-    ap (λ cells. Some (reads cells)) e ∙ ap (λ (bytes : List ℕ). Some bytes) (reads-firm (reads old))
+    ap (λ cells. Some (reads cells)) e ∙ ap (λ bytes. Some bytes) (reads-firm (reads old))
+reads-resynced _ _ h = absurd h
 
 -- what holds of an error holds of each result that is this error
 pub told-by : {A E : Type 0} (r : Result A E) (x : E) (P : E → Type 0) → IsErrAnd r (λ e. e ≡ x) → P x →

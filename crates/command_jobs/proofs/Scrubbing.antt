@@ -1,5 +1,5 @@
 -- From the hold and the steps of a scrub to what its command tells of it.
-use Rattle.command_jobs.proofs.Words.{◌≡◌, ℕ, ◌+◌, ◌≤◌, true, false, List, [], length, Option, Some, None, Ok, Err, refl, ap, sym, subst, ◌∙◌, arith, Cells, Provider, Record, Area, alone_refusal, new_scrub, BeginScrub, Begun, Happens, StandsForState, State, Scrub, Alone, setup_in, Seen, setup_in_effect, GoesOnTo, AreHanded, IsOpenAtRest, IsJustOpened, ScrubAnswer, ScrubIs, ScrubStands, scrub_answer, ScrubView, BeginFault, refusal_of, Devices, devices, Vault, Stands, StandsBeside, HoldsOver, IsFreshOver, IsSeenBefore, IsSeenAfter, SweepsToEnd, ScrubEndsOver}
+use Rattle.command_jobs.proofs.Words.{◌≡◌, ℕ, ◌+◌, ◌≤◌, true, false, List, [], length, Option, None, Ok, Err, refl, ap, sym, subst, ◌∙◌, arith, Cells, Provider, Record, Area, alone_refusal, new_scrub, BeginScrub, Begun, Happens, StandsForState, State, Scrub, Alone, setup_in, Seen, setup_in_effect, GoesOnTo, AreHanded, IsOpenAtRest, IsJustOpened, ScrubAnswer, ScrubIs, ScrubStands, scrub_answer, ScrubView, BeginFault, Devices, devices, Vault, Stands, StandsBeside, HoldsOver, IsFreshOver, IsSeenBefore, IsSeenAfter, SweepsToEnd, ScrubEndsOver}
 use Rattle.record_defs.specs.Records.{Setup}
 use Rattle.machine_defs.specs.Answers.{Answer}
 use Rattle.command_defs.specs.Opens as opens
@@ -23,8 +23,7 @@ BegunStands = (w : State) (moment : ℕ) (v : ScrubView) (ps : List Provider) �
 abbrev pub ScrubsLeave : Type 0
 ScrubsLeave = (records : List Record) (answer : Answer) (old new : Seen) →
     (opened : opens.IsOpened old records) → length new.providers ≡ length old.providers →
-    ScrubsAlone opened.area records answer old new →
-    ScrubbedAlone records answer old new
+    ScrubsAlone opened.area records answer old new → ScrubbedAlone records answer old new
 
 abbrev pub StandsOver : Type 0
 StandsOver = (v : Vault) (d : Devices) (w : State) (ps : List Provider) (providers : ℕ → Provider)
@@ -44,8 +43,7 @@ pub never-refused : ThereIsOne → (v : Vault) (area : Area) (records : List Rec
 never-refused there v area records holds faults F none next why providers enough holds_over =
     (let x = opened-one there v area records holds faults F providers enough in
     let h = holds_over x.0 (devices holds faults providers) x.1.stands in
-    let e : Some (refusal_of why) ≡ None = sym h.0 ∙ none x.0 x.1.over.at_rest in
-    cc)
+    cc (sym h.0 ∙ none x.0 x.1.over.at_rest))
 
 module _ (v : Vault) (records : List Record) (holds : Option Cells) (faults : ℕ) (old new : Seen)
     (R : opens.IsOpened old records) (F : IsFreshOver v R.area records holds faults)
@@ -68,8 +66,7 @@ module _ (v : Vault) (records : List Record) (holds : Option Cells) (faults : �
 
   ran-alone : (w : State) (moment : ℕ) → IsJustOpened w R.area records 1 faults providers →
       RanScrub records told old new faults w moment
-  ran-alone w moment over =
-      (let d = devices holds faults providers in
+  ran-alone w moment over = (let d = devices holds faults providers in
       let stands = F.stands w providers over in
       let h = holds_over w d stands in
       let rest = over.at_rest.rest.idle in

@@ -18,15 +18,13 @@ use Rattle.command_jobs.proofs.ReadBytes.{bytes-front, reads-on}
 -- whole stripes are no more than a file has
 stripes-within : (s : Setup) (stripes count : ℕ) → 0 < 16 * stripe_symbols (object_of s 0) →
     stripes * (16 * stripe_symbols (object_of s 0)) ≤ count → stripes ≤ stripes_of s count
-stripes-within s stripes count some few =
-    (le-div_iff_mul-le some).1 (let a = some in let b = few in omega (arith, a, b))
+stripes-within s stripes count some few = (le-div_iff_mul-le some).1 (omega (arith, some, few))
 
 -- so many whole stripes are so many
 stripes-whole : (s : Setup) (stripes : ℕ) → 0 < 16 * stripe_symbols (object_of s 0) →
     stripes_of s (stripes * (16 * stripe_symbols (object_of s 0))) ≡ stripes
-stripes-whole s stripes some =
-    div-mul-add stripes (16 * stripe_symbols (object_of s 0)) (16 * stripe_symbols (object_of s 0) - 1)
-    (let a = some in omega (arith, a))
+stripes-whole s stripes some = div-mul-add stripes (16 * stripe_symbols (object_of s 0))
+    (16 * stripe_symbols (object_of s 0) - 1) (let a = some in omega (arith, a))
 
 -- ---- a put over a vault that was just opened
 
@@ -86,8 +84,7 @@ module _ (there : ThereIsOne) (v : Vault) (records : List Record) (holds : Optio
 
     within : (stripes : ℕ) → E.told ≡ Some stripes → stripes
         ≤ stripes_of (profiled (setup_in_effect records) (chosen (setup_in_effect records) own)) (length bytes)
-    within stripes is =
-        (let o = subst (λ (t : Option ℕ). IfSome t (λ stripes. stripes * size ≤ read)) is E.given in
+    within stripes is = (let o = subst (λ t. IfSome t (λ stripes. stripes * size ≤ read)) is E.given in
         stripes-within (profiled (setup_in_effect records) (chosen (setup_in_effect records) own)) stripes
         (length bytes) (subst (λ n. 0 < n) size_is some)
         (subst (λ n. stripes * n ≤ length bytes) size_is (let r = E.read_is in omega (arith, o, r))))
@@ -109,15 +106,13 @@ module _ (there : ThereIsOne) (v : Vault) (records : List Record) (holds : Optio
       read_is = sym E.read_is;
       few = few;
       over = ends-with there v records holds faults old new R F next last (PutJob name bytes) own number ended
-          (named bytes) providers after new_holds new_faults E.told (begins bytes reads.are_bytes few) go
-          same B A
-          (left-open there v records holds faults old new R F next last (PutJob name bytes) own number ended
-          (named bytes) providers after new_holds new_faults E.told (begins bytes reads.are_bytes few) go
-          same B A name bytes refl stripes is (within stripes is));
-      whole = λ m. absurd (not-ended there v records holds faults old new R F next last (PutJob name bytes) own
-          number ended (named bytes) providers after new_holds new_faults E.told
-          (begins bytes reads.are_bytes few) go same B A name bytes refl stripes is
-          (within stripes is) m);
+          (named bytes) providers after new_holds new_faults E.told (begins bytes reads.are_bytes few) go same
+          B A (left-open there v records holds faults old new R F next last (PutJob name bytes) own number
+          ended (named bytes) providers after new_holds new_faults E.told (begins bytes reads.are_bytes few)
+          go same B A name bytes refl stripes is (within stripes is));
+      whole = λ m. absurd (not-ended there v records holds faults old new R F next last (PutJob name bytes)
+          own number ended (named bytes) providers after new_holds new_faults E.told
+          (begins bytes reads.are_bytes few) go same B A name bytes refl stripes is (within stripes is) m);
     }
 
     -- the job of the bytes that were read ended so
@@ -202,8 +197,7 @@ module _ (there : ThereIsOne) (v : Vault) (records : List Record) (holds : Optio
     runs = record {
       faults = faults;
       before = (let b = B.faults in omega (arith, b));
-      ran = λ w moment over. part-ran w moment
-          (subst (λ (ps : List Provider). IsJustOpened w R.area records 1 faults ps) B.providers over);
+      ran = λ w moment over. part-ran w moment (rw B.providers at over);
     }
 
     begun-one : (w : State) × (HasBegun w 1 (PutJob name given) own number next
@@ -252,8 +246,7 @@ module _ (there : ThereIsOne) (v : Vault) (records : List Record) (holds : Optio
       mid new.source → (how ≡ streamed.SourceFault → Rose old.source_faults new.source_faults) →
       StreamsOver R.area records name own how old new
   streams-over leaves parts (streamed.Ended ended length) E rose = put-ends leaves ended length E
-  streams-over leaves parts streamed.SourceFault E rose =
-      put-stops parts (λ count. count ≤ largest_file)
+  streams-over leaves parts streamed.SourceFault E rose = put-stops parts (λ count. count ≤ largest_file)
       (λ count. (count ≤ largest_file) × Rose old.source_faults new.source_faults)
       (λ count few. (few, rose refl)) E
   streams-over leaves parts streamed.TooLong E rose =

@@ -1,6 +1,5 @@
 -- A scrub that runs alone, step by step.
 use Rattle.command_jobs.proofs.Words.{◌≡◌, ℕ, ◌+◌, true, false, List, [], ◌∷◌, length, refl, ap, sym, subst, ◌∙◌, Provider, Outcome, Step, More, heard_by, job_of, Happens, Moment, now, State, Scrub, setup_in, AreSteps, ScrubAnswer, ScrubStands, MakesScrubStep, scrub_outcome, ScrubView, SweepsToEnd}
-use Rattle.machine_defs.specs.Jobs.{Job}
 use Rattle.hail_scrub.specs.declared.turn.ScrubTurn.TheVariants as turn
 
 -- the scrub has made these steps, and stands for that of the state after them; but for what runs alone and
@@ -41,9 +40,8 @@ module _ (w : State) (m : Scrub) (moment : ℕ) (v next : ScrubView) (ps qs : Li
       ((limit moment : ℕ) → here.is_open ≡ true → here.is_barred ≡ false →
       Happens limit moment here (Step way.next.number) outcome new) →
       Happens 8 (moment + length way.steps) here (Step m.number) outcome new
-  sweeps outcome new happens =
-      subst (λ n. Happens 8 (moment + length way.steps) here (Step n) outcome new) way.number
-      (happens 8 (moment + length way.steps) (ap (λ (x : State). x.is_open) way.beside ∙ opened)
+  sweeps outcome new happens = subst (λ n. Happens 8 (moment + length way.steps) here (Step n) outcome new)
+      way.number (happens 8 (moment + length way.steps) (ap (λ (x : State). x.is_open) way.beside ∙ opened)
       (ap (λ (x : State). x.is_barred) way.beside ∙ unbarred))
 
   -- what it changes beside
@@ -71,12 +69,9 @@ module _ (w : State) (m : Scrub) (moment : ℕ) (v next : ScrubView) (ps qs : Li
     goes = record {
       steps = way.steps;
       are_steps = way.are_steps;
-      ends = subst (λ n. Happens 8 (moment + length way.steps) here (Step m.number)
-          (scrub_outcome n (turn.Done answer)) M.state)
-          (ap (λ s. s.n) (setup-same w here way.beside))
-          (sweeps (scrub_outcome (setup_in here).n (turn.Done answer)) M.state M.happens);
-      heard_is = ap (λ (js : List Job). heard_by (job_of js m.number))
-          (sym idle ∙ sym (ap (λ (x : State). x.jobs) way.beside));
+      ends = rw (ap (λ s. s.n) (setup-same w here way.beside)) at (sweeps
+          (scrub_outcome (setup_in here).n (turn.Done answer)) M.state M.happens);
+      heard_is = ap (λ js. heard_by (job_of js m.number)) (sym idle ∙ sym (ap (λ x. x.jobs) way.beside));
     };
     beside = still-beside M.state M.beside;
     ended = M.left;

@@ -15,8 +15,7 @@ record OneOf (s : Setup) (cs : List CoreJob) (job : Job) : Type 0 where
 one-of : (s : Setup) (cs : List CoreJob) (js : List Job) (job : Job) → js ≡ job ∷ [] → job.number ≡ 1 →
     AllZip (IsJobOf s) cs js → OneOf s cs job
 one-of s [] js job e n h = absurd (subst (λ (xs : List Job). AllZip (IsJobOf s) [] xs) e h)
-one-of s (c ∷ cs) js job e n h =
-    (let k = subst (λ (xs : List Job). AllZip (IsJobOf s) (c ∷ cs) xs) e h in
+one-of s (c ∷ cs) js job e n h = (let k = subst (λ (xs : List Job). AllZip (IsJobOf s) (c ∷ cs) xs) e h in
     record {
       one = c;
       found = cond_true (c.number == 1) (Some c) (job_in cs 1) (eq-eqb c.number 1 (k.0.number ∙ n));

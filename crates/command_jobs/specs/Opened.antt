@@ -12,7 +12,7 @@
 --   IsUnopened told handed why         == the cause for which no vault is opened
 --   LiesInStore why                    == a cause that lies in what the disk reads, or in how many providers are
 --                                         handed in
---   HasJudged result                   == an opening has judged what the disk reads
+--   HasReadStore result                == an opening has judged what the disk reads
 use Rattle.std.specs.Prelude.{◌≡◌, ◌≢◌, ℕ, ◌<◌, ◌≤◌, IsTrue, IfSome, List, [], length, Option, Result, Ok, Err}
 use Rattle.std.specs.List.{list_all}
 use Rattle.device_defs.specs.Cells.{Cells}
@@ -93,6 +93,6 @@ LiesInStore unopened.DiskFault = ⊥
 LiesInStore unopened.Memory = ⊥
 
 -- an opening has judged what the disk reads: it has opened a vault, or refuses it for what lies in the store
-abbrev pub HasJudged : {T : Type 0} → Result T Unopened → Type 0
-HasJudged (Ok vault) = Unit {0}
-HasJudged (Err why) = LiesInStore why
+abbrev pub HasReadStore : {T : Type 0} → Result T Unopened → Type 0
+HasReadStore (Ok vault) = Unit {0}
+HasReadStore (Err why) = LiesInStore why

@@ -5,7 +5,7 @@ ghost use Rattle.record_defs.specs.Records.{Record};
 ghost use Rattle.record_defs.specs.Areas.{Area};
 ghost use Rattle.vault_open.specs.Disks.{ReadsDisk};
 ghost use Rattle.command_jobs.specs.declared.open.Unopened.TheVariants as unopened;
-ghost use Rattle.command_jobs.specs.Opened.{IsFreshOver, IsReadFor, IsFreshFor, IsUnopened, HasJudged, unopened_of};
+ghost use Rattle.command_jobs.specs.Opened.{IsFreshOver, IsReadFor, IsFreshFor, IsUnopened, HasReadStore, unopened_of};
 
 use disk_model::Disk;
 use job_laws::alone::opened_states;
@@ -53,7 +53,7 @@ pub fn open_vault<D: Disk>(alloc: Global, disk: &mut D, handed: usize) -> Result
     ensures refused { IfErr result (IsUnopened (D.holds disk.old) handed) }
     ensures reads { option_map reads (D.holds disk.new) ≡ option_map reads (D.holds disk.old) }
     ensures disk { ReadsDisk (D.holds disk.old) (D.holds disk.new) (D.faults disk.old) (D.faults disk.new)
-        (HasJudged result) (IsErrOf result unopened.DiskFault) }
+        (HasReadStore result) (IsErrOf result unopened.DiskFault) }
 {
     opened_states();
     let vault = Vault::start(alloc, disk, FIRST_JOB)?;

@@ -1,11 +1,10 @@
 -- A store is known again after a command, and the next one finds it so.
-use Rattle.command_laws.proofs.Words.{◌≡◌, ℕ, ◌<◌, ◌≤◌, true, false, List, length, take, Option, None, Some, refl, ap, sym, subst, ◌∙◌, inl, inr, arith, is_some, IfSome, false≢true, IsShape, Cells, reads, firm, synced, Stopped, IsImage, EachImage, Record, largest_journal, Area, StandsActive, Kind, GetJob, DropJob, AuditJob, RepairJob, UpgradeJob, Command, Numbers, RowOf, InitWith, PutUnder, PutAt, GetOf, DropOf, ListAll, AuditAll, RepairAll, UpgradeJournal, ScrubAll, PackJournal, WritesLine, TellsLine, IsResynced, IsRead, Seen, Ending, IsRefused, sinking, setup_in_effect, AnswersInit, AnswersScrub, AnswersPack, AnswersPut, AnswersAlone, AnswersList, Answers, IsKnown, IsSure, Follows, is_refusal, reads-firm, image-firm, each_image-mono, IsImage-reads, is_some-at, resynced-equal}
+use Rattle.command_laws.proofs.Words.{◌≡◌, ℕ, ◌≤◌, true, false, List, length, Option, None, Some, refl, ap, sym, subst, ◌∙◌, inl, inr, arith, is_some, IfSome, false≢true, IsShape, Cells, reads, firm, Stopped, IsImage, EachImage, Record, Area, StandsActive, Command, Numbers, RowOf, WritesLine, TellsLine, IsResynced, IsRead, Seen, Ending, IsRefused, sinking, setup_in_effect, AnswersInit, Answers, IsKnown, IsSure, Follows, is_refusal, reads-firm, image-firm, each_image-mono, IsImage-reads, is_some-at, resynced-equal}
 use Rattle.device_defs.specs.Told.{Goes}
-use Rattle.command_laws.proofs.Known.{EndStatus, status-ended, ended-so, written-so}
-use Rattle.command_laws.proofs.JobEnds.{given-status}
+use Rattle.command_laws.proofs.Known.{EndStatus, ended-so, written-so}
 use Rattle.command_laws.proofs.Images.{init-kept, refused-keeps}
 use Rattle.command_laws.proofs.Knowing.{known-good}
-use Rattle.command_laws.proofs.Early.{IsEarly, alone-cases, put-cases, list-cases, scrub-cases, pack-cases, init-cases}
+use Rattle.command_laws.proofs.Early.{IsEarly, command-cases, init-cases}
 
 -- ---- refusals
 
@@ -25,8 +24,7 @@ read-kept (Some a) (Some b) area records g tells R = (
     in_grammar = R.in_grammar;
     accepted = R.accepted;
     room = R.room;
-    reads_are = subst (λ bytes. (9 < length bytes) × StandsActive (take largest_journal bytes) area records)
-        (sym (reads-resynced a b g)) R.reads_are;
+    reads_are = rw (← (reads-resynced a b g)) at R.reads_are;
   },
 )
 
@@ -79,12 +77,10 @@ early-told E = record {
 }
 
 other-status : (status m : ℕ) → status ≡ m → is_refusal m ≡ false → is_refusal status ≡ true → ⊥
-other-status status m is none refuses =
-    false≢true (let e : false ≡ true = sym none ∙ (ap is_refusal (sym is) ∙ refuses) in e)
+other-status status m is none refuses = false≢true (sym none ∙ (ap is_refusal (sym is) ∙ refuses))
 
 no-end : (status : ℕ) → EndStatus status → is_refusal status ≡ true → ⊥
-no-end status e refuses =
-    false≢true (sym (ended-so is_refusal refl refl refl refl refl refl e) ∙ refuses)
+no-end status e refuses = false≢true (sym (ended-so is_refusal refl refl refl refl refl refl e) ∙ refuses)
 
 no-text : (line : List ℕ) (old new : Seen) (end : Ending) → WritesLine line end.status (sinking old new) →
     is_refusal end.status ≡ true → ⊥
@@ -96,45 +92,6 @@ no-tale : (line : List ℕ) (old new : Seen) (end : Ending) → TellsLine 4 line
 no-tale line old new end (inl w) refuses = other-status end.status 4 w.0 refl refuses
 no-tale line old new end (inr (inl w)) refuses = other-status end.status 4 w.0 refl refuses
 no-tale line old new end (inr (inr w)) refuses = other-status end.status 70 w.0 refl refuses
-
-put-told : (name : List ℕ) (old new : Seen) (end : Ending) {own : Option ℕ} →
-    AnswersPut name own old new end → is_refusal end.status ≡ true → IsRefused end.status end.at old new end
-put-told name old new end A refuses = put-cases early-told (λ records bytes opened known none stops left. absurd
-    (elim (given-status _ bytes old new end stops) [
-      | inl e ↦ other-status end.status 14 e refl refuses
-      | inr e ↦ other-status end.status 16 e refl refuses
-    ]))
-    (λ records bytes opened known read few how none left whole by. absurd
-    (no-end end.status (status-ended _ how old new end by) refuses)) A
-
-alone-told : (kind : Kind) (old new : Seen) (end : Ending) → AnswersAlone kind old new end →
-    is_refusal end.status ≡ true → IsRefused end.status end.at old new end
-alone-told kind old new end A refuses = alone-cases early-told (λ records opened how none left by. absurd
-    (no-end end.status (status-ended _ how old new end by) refuses)) A
-
-list-told : (old new : Seen) (end : Ending) → AnswersList old new end → is_refusal end.status ≡ true →
-    IsRefused end.status end.at old new end
-list-told old new end A refuses =
-    list-cases early-told (λ records opened L. absurd (no-text _ old new end L.written refuses)) A
-
-scrub-told : (old new : Seen) (end : Ending) → AnswersScrub old new end → is_refusal end.status ≡ true →
-    IsRefused end.status end.at old new end
-scrub-told old new end A refuses = scrub-cases early-told (λ records how opened synced left by. absurd
-    (no-end end.status (status-ended _ how old new end by) refuses)) A
-
-pack-told : (old new : Seen) (end : Ending) → AnswersPack old new end → is_refusal end.status ≡ true →
-    IsRefused end.status end.at old new end
-pack-told old new end A refuses = pack-cases early-told (λ records how opened none left by. absurd
-    (no-end end.status (status-ended _ how old new end by) refuses)) A
-
-init-told : (numbers : Numbers) (old new : Seen) (end : Ending) → AnswersInit numbers old new end →
-    is_refusal end.status ≡ true → IsRefused end.status end.at old new end
-init-told numbers old new end A refuses = init-cases early-told
-    (λ key status two F. absurd (elim two [
-      | inl e ↦ other-status end.status 12 (F.status_is ∙ e) refl refuses
-      | inr e ↦ other-status end.status 70 (F.status_is ∙ e) refl refuses
-    ]))
-    (λ key R. absurd (no-text _ old new end R.written refuses)) A
 
 row-told : (n l b : ℕ) (seen : List (Option ℕ)) (old new : Seen) (end : Ending) →
     Answers (RowOf n l b seen) old new end → is_refusal end.status ≡ true →
@@ -156,18 +113,12 @@ row-told n l b seen old new end (A, T) refuses = record {
 -- a command that ends with a status of a refusal touched nothing: it was refused
 pub refusal-told : (command : Command) (old new : Seen) (end : Ending) → Answers command old new end →
     is_refusal end.status ≡ true → IsRefused end.status end.at old new end
-refusal-told (RowOf n l b seen) old new end A refuses = row-told n l b seen old new end A refuses
-refusal-told (InitWith numbers) old new end A refuses = init-told numbers old new end A refuses
-refusal-told (PutUnder name) old new end A refuses = put-told name old new end A refuses
-refusal-told (PutAt name profile) old new end A refuses = put-told name old new end A refuses
-refusal-told (GetOf name) old new end A refuses = alone-told (GetJob name) old new end A.0 refuses
-refusal-told (DropOf name) old new end A refuses = alone-told (DropJob name) old new end A.0 refuses
-refusal-told ListAll old new end A refuses = list-told old new end A.0 refuses
-refusal-told AuditAll old new end A refuses = alone-told AuditJob old new end A.0 refuses
-refusal-told RepairAll old new end A refuses = alone-told RepairJob old new end A.0 refuses
-refusal-told UpgradeJournal old new end A refuses = alone-told UpgradeJob old new end A.0 refuses
-refusal-told ScrubAll old new end A refuses = scrub-told old new end A.0 refuses
-refusal-told PackJournal old new end A refuses = pack-told old new end A.0 refuses
+refusal-told command old new end A refuses = command-cases early-told
+    (λ e. absurd (no-end end.status e refuses)) (λ cut. absurd (elim cut [
+      | inl e ↦ other-status end.status 14 e refl refuses
+      | inr e ↦ other-status end.status 16 e refl refuses
+    ]))
+    (λ n l b seen A. row-told n l b seen old new end A refuses) command A
 
 -- ---- a stop, and the next command
 
@@ -212,13 +163,11 @@ sure-same records old new same providers S = record {
     tells = ap is_some same ∙ S.known.tells;
     opened = record {
       area = S.known.opened.area;
-      read = subst (λ d. IsRead d S.known.opened.area records) (sym same) S.known.opened.read;
-      enough = subst (λ ps. (setup_in_effect records).n ≤ length ps)
-          (sym providers) S.known.opened.enough;
+      read = rw (← same) at S.known.opened.read;
+      enough = rw (← providers) at S.known.opened.enough;
     };
   };
-  images = subst (λ d. EachImage d (λ image. StandsActive image S.known.opened.area records)) (sym same)
-      S.images;
+  images = rw (← same) at S.images;
 }
 
 init-providers : (numbers : Numbers) (old new : Seen) (end : Ending) → AnswersInit numbers old new end →
@@ -236,11 +185,9 @@ sure-init numbers records old new end A S tells =
     (each_image-mono old.disk _ _ (λ image stands. (S.known.opened.area, stands)) S.images))
     S.known.tells S.images in
     let c = is_some-at new.disk (tells ∙ S.known.tells) in
-    let stands : StandsActive (reads c.0) S.known.opened.area records = subst
-    (λ d. EachImage d (λ image. StandsActive image S.known.opened.area records)) c.1 images (reads c.0)
-    (IsImage-reads c.0) in
     record {
-      known = known-sure old records c.0 new S c.1 stands
-          (ap length (init-providers numbers old new end A));
+      known = known-sure old records c.0 new S c.1 (subst
+          (λ d. EachImage d (λ image. StandsActive image S.known.opened.area records)) c.1 images (reads c.0)
+          (IsImage-reads c.0)) (ap length (init-providers numbers old new end A));
       images = images;
     })

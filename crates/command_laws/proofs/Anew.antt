@@ -1,5 +1,5 @@
 -- A repair and a scrub with few providers that are wrong or fail write the files' own blocks.
-use Rattle.command_laws.proofs.Words.{◌≡◌, ℕ, zero, suc, ◌+◌, ◌<◌, ◌≤◌, ◌⊎◌, Bool, true, false, cond, List, [], ◌∷◌, length, map, get_or, Option, None, Some, refl, ap, sym, subst, ◌∙◌, inl, inr, arith, All, IfSome, nat_lt, is_some, is_none, range_with_len, cases_Bool, cases_eq, false≢true, or_parts, In, IsShape, upto, Object, stripes, symbols_in, is_wrong_block, is_wrong, columns, column_of_symbols, block_at, GivesSymbols, is_flagged, Held, sized, Record, File, Due, file_of, files_of, find_file, due_of, is_same_name, stripes_of, profiled, RepairJob, Seen, Ending, setup_in_effect, with_number, files_by_number, Ran, setup_at_begin, object_at_begin, stripes_at_begin, object_numbered, Place, Gave, IsTruth, places_of, blocks_at, held_at, flags, IfFlagged, GivesPlace, RewrittenOn, RewritesAll, AnswersAlone, has_risen, is_bad_with, is_bad, bad_count, bad_seen, IsDone, IsKnown, HoldsFile, IsRepaired, ran_to, after_repair, AreAccepted, in_flat, count_of-within, find-files_of, cond_true, cond_false, same_value, block_at-map, wrong-sized, not-wrong-each, not-risen}
+use Rattle.command_laws.proofs.Words.{◌≡◌, ℕ, zero, suc, ◌+◌, ◌<◌, ◌≤◌, ◌⊎◌, Bool, true, false, cond, List, [], ◌∷◌, length, map, get_or, Option, None, Some, refl, ap, sym, subst, ◌∙◌, inl, inr, arith, All, IfSome, nat_lt, is_some, is_none, range_with_len, cases_Bool, cases_eq, false≢true, or_parts, In, IsShape, upto, Object, stripes, symbols_in, is_wrong_block, is_wrong, columns, column_of_symbols, block_at, is_flagged, Held, sized, Record, File, Due, file_of, files_of, find_file, due_of, is_same_name, stripes_of, profiled, RepairJob, Seen, Ending, setup_in_effect, with_number, files_by_number, Ran, setup_at_begin, object_at_begin, stripes_at_begin, object_numbered, Place, Gave, IsTruth, places_of, blocks_at, held_at, flags, IfFlagged, GivesPlace, RewrittenOn, RewritesAll, AnswersAlone, has_risen, is_bad_with, is_bad, bad_count, bad_seen, IsDone, IsKnown, HoldsFile, IsRepaired, ran_to, after_repair, AreAccepted, in_flat, count_of-within, find-files_of, cond_true, cond_false, same_value, block_at-map, wrong-sized, not-wrong-each, not-risen}
 use Rattle.std.proofs.Common.{◌&&◌}
 use Rattle.command_defs.specs.Truthful.{missing, IsTruthful}
 use Rattle.column_laws.proofs.RightRows.{symbols-right}
@@ -21,24 +21,14 @@ in-range f a (suc n) j l u = elim (cases_eq j a) [
 in-number : (f : File) (fs : List File) (z : File) → (z ≡ f) ⊎ In z fs → In z (with_number f fs)
 in-number f [] z (inl e) = inl e
 in-number f [] z (inr i) = absurd i
-in-number f (g ∷ gs) z (inl e) = elim (cases_Bool (nat_lt f.id g.id)) [
-  | inl t ↦ subst (λ l. In z l) (sym (cond_true (nat_lt f.id g.id) (f ∷ g ∷ gs) (g ∷ with_number f gs) t))
-      (inl e)
-  | inr o ↦ subst (λ l. In z l) (sym (cond_false (nat_lt f.id g.id) (f ∷ g ∷ gs) (g ∷ with_number f gs) o))
-      (inr (in-number f gs z (inl e)))
-]
-in-number f (g ∷ gs) z (inr (inl e)) = elim (cases_Bool (nat_lt f.id g.id)) [
-  | inl t ↦ subst (λ l. In z l) (sym (cond_true (nat_lt f.id g.id) (f ∷ g ∷ gs) (g ∷ with_number f gs) t))
-      (inr (inl e))
-  | inr o ↦ subst (λ l. In z l) (sym (cond_false (nat_lt f.id g.id) (f ∷ g ∷ gs) (g ∷ with_number f gs) o))
-      (inl e)
-]
-in-number f (g ∷ gs) z (inr (inr i)) = elim (cases_Bool (nat_lt f.id g.id)) [
-  | inl t ↦ subst (λ l. In z l) (sym (cond_true (nat_lt f.id g.id) (f ∷ g ∷ gs) (g ∷ with_number f gs) t))
-      (inr (inr i))
-  | inr o ↦ subst (λ l. In z l) (sym (cond_false (nat_lt f.id g.id) (f ∷ g ∷ gs) (g ∷ with_number f gs) o))
-      (inr (in-number f gs z (inr i)))
-]
+in-number f (g ∷ gs) z h = by_case (in-number f gs z) (nat_lt f.id g.id) h
+  where
+    by_case : ((z ≡ f) ⊎ In z gs → In z (with_number f gs)) → (b : Bool) → (z ≡ f) ⊎ In z (g ∷ gs) →
+        In z (cond b (f ∷ g ∷ gs) (g ∷ with_number f gs))
+    by_case more true h = h
+    by_case more false (inl e) = inr (more (inl e))
+    by_case more false (inr (inl e)) = inl e
+    by_case more false (inr (inr i)) = inr (more (inr i))
 
 in-by_number : (fs : List File) (z : File) → In z fs → In z (files_by_number fs)
 in-by_number [] z i = absurd i
@@ -46,10 +36,10 @@ in-by_number (f ∷ fs) z (inl e) = in-number f (files_by_number fs) z (inl e)
 in-by_number (f ∷ fs) z (inr i) = in-number f (files_by_number fs) z (inr (in-by_number fs z i))
 
 find-in : (fs : List File) (name : List ℕ) (z : File) → find_file fs name ≡ Some z → In z fs
-find-in [] name z h = absurd (let e : None ≡ Some z = h in cc)
+find-in [] name z h = absurd (cc h)
 find-in (f ∷ fs) name z h = elim (cases_Bool (is_same_name f.name name)) [
-  | inl t ↦ (let e : Some z ≡ Some f = sym h
-      ∙ cond_true (is_same_name f.name name) (Some f) (find_file fs name) t in inl (let g : z ≡ f = cc in g))
+  | inl t ↦ (let e = sym h
+      ∙ cond_true (is_same_name f.name name) (Some f) (find_file fs name) t in inl (cc))
   | inr o ↦ inr (find-in fs name z (sym (cond_false (is_same_name f.name name) (Some f) (find_file fs name) o)
       ∙ h))
 ]
@@ -58,12 +48,11 @@ in-index : {X : Type 0} (xs : List X) (z : X) → In z xs →
     (k : ℕ) × (k < length xs) × ((d : X) → get_or xs k d ≡ z)
 in-index [] z i = absurd i
 in-index (x ∷ xs) z (inl e) = (0, omega arith, λ d. sym e)
-in-index (x ∷ xs) z (inr i) =
-    (let h = in-index xs z i in (suc h.0, (let l = h.1 in omega (arith, l)), λ d. h.2 d))
+in-index (x ∷ xs) z (inr i) = (let h = in-index xs z i in (suc h.0, (omega (arith, h.1)), λ d. h.2 d))
 
 -- what holds of each holds of one of them
 pub all-in : {X : Type 0} (P : X → Type 0) (xs : List X) (z : X) → All P xs → In z xs → P z
-all-in P xs z all i = (let h = in-index xs z i in subst P (h.2 z) (all h.0 z h.1))
+all-in P xs z all i = (let h = in-index xs z i in (rw (h.2 z) at (all h.0 z h.1)))
 
 -- ---- what was given where no count rose
 
@@ -78,8 +67,7 @@ missing-in given held (x ∷ xs) z (inr i) e = (let r = missing-in given held xs
 
 held-in : {A B : Type 0} (given held : A → Option B) (xs : List A) (z : A) (before now : ℕ) →
     IsTruthful given held xs before now → has_risen before now ≡ false → In z xs → given z ≡ held z
-held-in given held xs z before now T calm i =
-    (let c = not-risen before now calm in
+held-in given held xs z before now T calm i = (let c = not-risen before now calm in
     let few : before + missing given held xs ≤ now = T.few c.1 in
     elim (all-in (λ y. (given y ≡ held y) ⊎ (given y ≡ None)) xs z T.each i)
     [ inl same ↦ same | inr none ↦ by_held (held z) refl none few c.0 ])
@@ -87,9 +75,8 @@ held-in given held xs z before now T calm i =
     by_held : (h : Option _) → held z ≡ h → given z ≡ None → before + missing given held xs ≤ now →
         now ≤ before → given z ≡ held z
     by_held None e none few low = none ∙ sym e
-    by_held (Some b) e none few low =
-        absurd (let both : (is_none (given z) && is_some (held z)) ≡ true =
-        (λ k. is_none (none k) && is_some (e k)) in
+    by_held (Some b) e none few low = absurd (let both : (is_none (given z) && is_some (held z)) ≡ true
+        = (λ k. is_none (none k) && is_some (e k)) in
         let r = missing-in given held xs z i both in omega (arith, r, few, low))
 
 -- ---- a place of a file
@@ -102,7 +89,7 @@ module _ (x : Ran) (name : List ℕ) (file : File) (in_effect : file_of x.record
   -- and each of its stripes is a place
   pub in-places : (stripe : ℕ) → stripe < stripes_at_begin x file →
       In (record { object = file.id; stripe = stripe }) (places_of x)
-  in-places stripe within = in_flat (λ (f : File). map (λ t. record { object = f.id; stripe = t })
+  in-places stripe within = in_flat (λ f. map (λ t. record { object = f.id; stripe = t })
       (upto (stripes_of (profiled (setup_at_begin x) f.profile) f.size)))
       (files_by_number (files_of x.records)) file (record { object = file.id; stripe = stripe })
       (in-by_number (files_of x.records) file listed-in)
@@ -123,7 +110,7 @@ module _ (x : Ran) (shape : IsShape (setup_at_begin x).n (setup_at_begin x).l (s
   place = record { object = file.id; stripe = stripe }
 
   inside : stripe < stripes o (length bytes)
-  inside = subst (λ n. stripe < stripes_of (profiled (setup_at_begin x) file.profile) n) (sym size) within
+  inside = rw (← size) at within
 
   -- the object of its number is its own
   own : object_numbered x file.id ≡ o
@@ -138,14 +125,13 @@ module _ (x : Ran) (shape : IsShape (setup_at_begin x).n (setup_at_begin x).l (s
           (x.new j).other_faults) →
           is_wrong_block o bytes j stripe (block_at (blocks_at x gave place) j) ≡ false
       by_held None g T = absurd (false≢true (sym g))
-      by_held (Some held) g T =
-          (let p = or_parts (is_wrong o bytes j (held file.id))
+      by_held (Some held) g T = (let p = or_parts (is_wrong o bytes j (held file.id))
           (has_risen (x.old j).other_faults (x.new j).other_faults) g in
           let same = held-in (gave j) (held_at x held) asked place (x.old j).other_faults
           (x.new j).other_faults T p.1 member in
           ap (is_wrong_block o bytes j stripe)
           (block_at-map (λ i. gave i place) (setup_at_begin x).n j below
-          ∙ (same ∙ ap (λ (z : Object). sized z.profile.size (held file.id stripe)) own))
+          ∙ (same ∙ ap (λ z. sized z.profile.size (held file.id stripe)) own))
           ∙ (wrong-sized o bytes j stripe (held file.id stripe)
           ∙ not-wrong-each o bytes j (held file.id) p.0 stripe inside))
 
@@ -158,20 +144,20 @@ module _ (x : Ran) (shape : IsShape (setup_at_begin x).n (setup_at_begin x).l (s
   ]
 
   right-symbols : symbols place ≡ symbols_in o bytes stripe
-  right-symbols =
-      (let fewer = count_of-within
-      (λ j. is_wrong_block o bytes j stripe (block_at (blocks_at x gave place) j))
-      (is_bad x file bytes) 0 (setup_at_begin x).n bad-given in
-      symbols-right o bytes file.profile stripe (blocks_at x gave place) (symbols place) refl shape
-      (omega (arith, fewer, few))
-      (subst (λ (z : Object). GivesSymbols z stripe (blocks_at x gave place) (symbols place)) own
-      (all-in (GivesPlace x gave symbols) asked place gives member)))
+  right-symbols = (symbols-right o bytes file.profile stripe (blocks_at x gave place) (symbols place) refl
+      shape (omega (
+        arith,
+        count_of-within (λ j. is_wrong_block o bytes j stripe (block_at (blocks_at x gave place) j))
+            (is_bad x file bytes) 0 (setup_at_begin x).n bad-given,
+        few,
+      ))
+      (rw own at (all-in (GivesPlace x gave symbols) asked place gives member)))
 
   -- the column of what was accepted is the file's own, where at most b providers are bad
   pub right-column : (j : ℕ) →
       Some (column_of_symbols (object_numbered x file.id) (symbols place) j stripe)
       ≡ Some (columns o bytes j stripe)
-  right-column j = ap (λ (z : Object). Some (column_of_symbols z (symbols place) j stripe)) own
+  right-column j = ap (λ z. Some (column_of_symbols z (symbols place) j stripe)) own
       ∙ ap (λ s. Some (column_of_symbols o s j stripe)) right-symbols
 
 module _ (x : Ran) (shape : IsShape (setup_at_begin x).n (setup_at_begin x).l (setup_at_begin x).b)
@@ -209,11 +195,8 @@ pub repair-right : (name bytes : List ℕ) (records : List Record) (file : File)
     is_flagged (setup_in_effect records).tolerance due.counts j ≡ true → HoldsFile records new bytes file j
 repair-right name bytes records file due j old new end A K done is_due in_effect size few below flagged =
     (let R = repair-done old new end A done in
-    let same : R.records ≡ records = known-once old records R.records K R.opened.read in
-    subst (λ rs. due_of rs ≡ Some due → file_of rs name ≡ Some file →
-    bad_seen rs old new file bytes ≤ (setup_in_effect rs).b → j < (setup_in_effect rs).n →
-    is_flagged (setup_in_effect rs).tolerance due.counts j ≡ true → HoldsFile rs new bytes file j) same
-    (by-records R) is_due in_effect few below flagged)
+    let same = known-once old records R.records K R.opened.read in
+    (rw same at (by-records R)) is_due in_effect few below flagged)
   where
     by-records : (R : IsRepaired old new end) → due_of R.records ≡ Some due →
         file_of R.records name ≡ Some file →
@@ -222,10 +205,9 @@ repair-right name bytes records file due j old new end A K done is_due in_effect
         is_flagged (setup_in_effect R.records).tolerance due.counts j ≡ true →
         HoldsFile R.records new bytes file j
     by-records R is in_effect few below flagged stripe within =
-        (let due_is : R.due ≡ due = same_value (due_of R.records) R.due due R.is_due is in
+        (let due_is = same_value (due_of R.records) R.due due R.is_due is in
         holds-right (ran_to (after_repair R.records R.due) R.records old new end.heard)
         (shape-at old R.records R.opened)
         (flags (ran_to (after_repair R.records R.due) R.records old new end.heard) R.due)
         R.rewritten name file bytes in_effect size few R.opened.read.accepted stripe within j below
-        (subst (λ (d : Due). is_flagged (setup_in_effect R.records).tolerance d.counts j ≡ true)
-        (sym due_is) flagged))
+        (rw (← due_is) at flagged))

@@ -35,23 +35,18 @@ module _ (records : List Record) (undecided : ℕ) (counts : List ℕ) (old new 
       (rs ≡ after_audit records undecided counts → Counted)
 
   judged : EachImage new.disk Judged → Counted
-  judged h =
-      (let c = next-image new next (tells-back new next N F.tells) N in
-      let g : Judged (reads c.0) = c.2 Judged h in
-      let looked : (9 < length (reads c.0)) × StandsActive (journal_read c.0) F.opened.area
-      (after_audit records undecided counts) =
-      subst (λ d. IfSome d (λ cells. (9 < length (reads cells)) ×
-      StandsActive (journal_read cells) F.opened.area (after_audit records undecided counts))) c.1
-      F.opened.read.reads_are in
+  judged h = (let c = next-image new next (tells-back new next N F.tells) N in
+      let g = c.2 Judged h in
       g.2 (one_list (reads c.0) g.0 (after_audit records undecided counts) g.1 (
         F.opened.area,
-        active-front largest_journal (reads c.0) F.opened.area
-            (after_audit records undecided counts) looked.1,
+        active-front largest_journal (reads c.0) F.opened.area (after_audit records undecided counts)
+            (subst (λ d. IfSome d (λ cells. (9 < length (reads cells)) × StandsActive (journal_read cells)
+            F.opened.area (after_audit records undecided counts))) c.1 F.opened.read.reads_are).1,
       )))
 
   too-few : (rs : List Record) → length rs ≤ length records + 1 → rs ≡ after_audit records undecided counts →
       ⊥
-  too-few rs few same = (let size = ap length same in omega (arith, few, size))
+  too-few rs few same = omega (arith, few, ap length same)
 
   of-records : (area : Area) (told : Option Cells) →
       EachImage told (λ image. StandsActive image area records) → EachImage told Judged
@@ -59,8 +54,7 @@ module _ (records : List Record) (undecided : ℕ) (counts : List ℕ) (old new 
       (λ image stands. (records, (area, stands), λ same. absurd (too-few records (omega arith) same)))
 
   by-refused : (status at : ℕ) → IsRefused status at old new end → Counted
-  by-refused status at r =
-      (let T = sure-refused status at records old new end r S in
+  by-refused status at r = (let T = sure-refused status at records old new end r S in
       judged (of-records T.known.opened.area new.disk T.images))
 
   image-judged : (area : Area) (image : List ℕ) (after : List Record) (doubt : Option Record) →
@@ -84,8 +78,7 @@ module _ (records : List Record) (undecided : ℕ) (counts : List ℕ) (old new 
   -- the same audit's end has the same counts
   same-counts : (u : ℕ) (c : List ℕ) → Heard u c →
       after_audit records u c ≡ after_audit records undecided counts → Counted
-  same-counts u c H same =
-      subst (λ k. Heard undecided k) (ap counts_in same) (subst (λ n. Heard n c) (ap undecided_in same) H)
+  same-counts u c H same = rw (ap counts_in same) at (subst (λ n. Heard n c) (ap undecided_in same) H)
 
   module _ (area : Area) (how : Answer)
       (left : LeftAlone area records AuditJob None how old new end.heard) where
@@ -93,7 +86,7 @@ module _ (records : List Record) (undecided : ℕ) (counts : List ℕ) (old new 
     x = ran_left records AuditJob how old new end.heard left
 
     sure-off : {P : Type 0} (entry : Record) → x.doubt ≡ None → x.doubt ≡ Some entry → P
-    sure-off entry sure is = absurd (let e : None ≡ Some entry = sym sure ∙ is in cc)
+    sure-off entry sure is = absurd (cc (sym sure ∙ is))
 
     -- what the images of the disk say, by what stands for sure and what is in doubt
     by-images : (length x.after ≤ length records + 1) ⊎
@@ -112,31 +105,32 @@ module _ (records : List Record) (undecided : ℕ) (counts : List ℕ) (old new 
     by-cut (AuditIsCut.at_start after doubt none) = (let size = ap length after in
         by-images (inl (omega (arith, size)))
         (λ entry is same. absurd (too-few (entry ∷ x.after) (omega (arith, size)) same)))
-    by-cut (AuditIsCut.before_done after sure hears) = (let size = ap length after in
-        by-images (inl (omega (arith, size))) (λ entry is same. sure-off entry sure is))
-    by-cut (AuditIsCut.at_done u c after doubt hears counted) = (let size = ap length after in
-        by-images (inl (omega (arith, size)))
+    by-cut (AuditIsCut.before_done after sure hears) = by-images (inl (omega (arith, ap length after)))
+        (λ entry is same. sure-off entry sure is)
+    by-cut (AuditIsCut.at_done u c after doubt hears counted) = (by-images
+        (inl (omega (arith, ap length after)))
         (λ entry is same. same-counts u c (record { heard = hears.heard; truthful = hears.truthful }, counted)
         ((λ i. same_value x.doubt (AuditDone (next_audit records) u c) entry doubt is i ∷ sym after i)
         ∙ same)))
 
     by-answer : (h : Answer) → AuditGives x h → Counted
-    by-answer (answer.Audited number u c) L =
-        (let W = L.1 in
-        let hears = subst (λ n. HearsRounds x n) L.0 L.2 in
-        let counted = subst (λ n. CountsHeard x n u c) L.0 L.3 in
-        by-images (inr (λ same. same-counts u c
-        (record { heard = hears.heard; truthful = hears.truthful }, counted) (sym W.after ∙ same)))
+    by-answer (answer.Audited number u c) L = (let W = L.1 in
+        let hears = rw L.0 at L.2 in
+        by-images (inr (λ same. same-counts u c (
+          record { heard = hears.heard; truthful = hears.truthful },
+          (subst (λ n. CountsHeard x n u c) L.0 L.3),
+        ) (sym W.after ∙ same)))
         (λ entry is same. sure-off entry W.sure is))
     by-answer answer.DiskFault L = by-cut L.1
-    by-answer answer.Memory L =
-        (let C = L.2 in
-        let parts = ap length C.parts in
-        let sum = length-append C.done (C.next ∷ C.rest) in
-        let after = ap length C.after in
-        let more = length-append (reverse C.done) records in
-        let back = length-reverse C.done in
-        by-images (inl (omega (arith, parts, sum, after, more, back)))
+    by-answer answer.Memory L = (let C = L.2 in
+        by-images (inl (omega (
+          arith,
+          ap length C.parts,
+          length-append C.done (C.next ∷ C.rest),
+          ap length C.after,
+          length-append (reverse C.done) records,
+          length-reverse C.done,
+        )))
         (λ entry is same. sure-off entry C.sure is))
     by-answer h L = absurd L
 

@@ -1,5 +1,5 @@
 -- When an upgrade, a put with a profile of its own, and a pack are not refused.
-use Rattle.command_laws.proofs.Words.{◌≡◌, ℕ, ◌+◌, ◌-◌, ◌^◌, ◌<◌, ◌≤◌, ◌==◌, true, false, cond, not, List, length, sum, None, Some, ap, ◌∙◌, arith, nat_lt, nat_le, le-ltb, nat_tests, Record, is_name, largest_file, largest_journal, all_profiles, Area, end_in, version_of, next_id, PutJob, UpgradeJob, ToPut, ToUpgrade, is_too_full, are_numbers_used_up, is_crowded_for, setup_in_effect, sight_over, refusal_over, reaches_over, pack_refusal_over}
+use Rattle.command_laws.proofs.Words.{◌≡◌, ℕ, ◌+◌, ◌-◌, ◌^◌, ◌<◌, ◌≤◌, ◌==◌, true, false, cond, not, List, length, sum, None, Some, ap, ◌∙◌, arith, nat_lt, nat_le, le-ltb, nat_tests, Record, is_name, largest_file, largest_journal, all_profiles, Area, end_in, version_of, next_id, PutJob, UpgradeJob, ToPut, is_too_full, are_numbers_used_up, is_crowded_for, setup_in_effect, sight_over, refusal_over, reaches_over, pack_refusal_over}
 use Rattle.std.proofs.Common.{◌||◌}
 use Rattle.machine_defs.specs.Space.{append_sizes}
 use Rattle.machine_defs.specs.Refusals as refusal
@@ -7,9 +7,8 @@ use Rattle.machine_defs.specs.Refusals as refusal
 -- an upgrade of a journal of the first version with room for its record is not refused
 pub upgrade-begins : (area : Area) (records : List Record) → version_of records ≡ 1 →
     end_in area records + 3 ≤ largest_journal → refusal_over area records UpgradeJob None ≡ None
-upgrade-begins area records one fits =
-    (let first : (version_of records == 2) ≡ false = ap (λ v. v == 2) one in
-    let room : is_too_full (sight_over area records) ToUpgrade ≡ false =
+upgrade-begins area records one fits = (let first = ap (λ v. v == 2) one in
+    let room =
     ap (nat_lt largest_journal) (omega arith) ∙ le-ltb largest_journal (end_in area records + 3) fits in
     (λ i. cond (first i) (Some refusal.NewVersion) (cond (room i || false) (Some refusal.JournalFull) None)))
 
@@ -40,6 +39,5 @@ own-begins name bytes own area records two known named short crowded fits number
 -- a pack of a journal of the second version that does not reach over is not refused
 pub pack-begins : (area : Area) (records : List Record) → version_of records ≡ 2 →
     reaches_over area records ≡ false → pack_refusal_over area records ≡ None
-pack-begins area records two within =
-    (let old : (version_of records == 1) ≡ false = ap (λ v. v == 1) two in
-    (λ i. cond (old i) (Some refusal.OldVersion) (cond (within i) (Some refusal.PackTooLong) None)))
+pack-begins area records two within = (λ i. cond ((ap (λ v. v == 1) two) i) (Some refusal.OldVersion)
+    (cond (within i) (Some refusal.PackTooLong) None))

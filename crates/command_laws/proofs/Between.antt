@@ -34,17 +34,16 @@ handed-set w ps j q H below = record { count = H.count ∙ sym (length-set ps j 
     each : (k : ℕ) → k < length (slice_set ps j q) →
         slice_get (slice_set ps j q) k ≡ Some (with_provider w.providers j q k)
     each k l = elim (cases_Bool (k == j)) [
-      | inl t ↦ (let e : k ≡ j = eqb-true k j t in ap (slice_get (slice_set ps j q)) e
+      | inl t ↦ (ap (slice_get (slice_set ps j q)) (eqb-true k j t)
           ∙ (get-set_same ps j q below ∙ ap Some (sym (cond_true (k == j) q (w.providers k) t))))
       | inr f ↦ get-set_other ps j k q (λ e. false≢true (sym f ∙ eq-eqb k j e))
-          ∙ (H.each k (let m = length-set ps j q in omega (arith, m, l))
+          ∙ (H.each k (omega (arith, (length-set ps j q), l))
           ∙ ap Some (sym (cond_false (k == j) q (w.providers k) f)))
     ]
 
 given-at : (w : State) (ps : List Provider) (j : ℕ) (p : Provider) → AreHanded ps w → j < length ps →
     slice_get ps j ≡ Some p → p ≡ w.providers j
-given-at w ps j p H below at =
-    (let e : Some p ≡ Some (w.providers j) = sym at ∙ H.each j below in let f : p ≡ w.providers j = cc in f)
+given-at w ps j p H below at = (let e = sym at ∙ H.each j below in cc)
 
 -- an event that leaves this state but for its providers
 record Goes-so (w : State) (event : Event) (ps : List Provider) : Type 0 where
@@ -65,9 +64,8 @@ one-goes w (Alter j object stripe place symbol) ps next H (p, q, below, at, (fou
   happens = λ n. replaces-at w j (λ held. HasPlace (held object stripe) place)
       (with_symbol object stripe place symbol) (nat_lt j w.handed)
       (lt-ltb j w.handed (let c = H.count in omega (arith, c, below))) found q
-      (subst (λ o. Replaces (λ held. HasPlace (held object stripe) place)
-      (with_symbol object stripe place symbol) found o q) (given-at w ps j p H below at) call);
-  handed = subst (λ l. AreHanded l (replaced_in w j q)) (sym is) (handed-set w ps j q H below);
+      (rw (given-at w ps j p H below at) at call);
+  handed = rw (← is) at (handed-set w ps j q H below);
 }
 one-goes w (Lose j object stripe) ps next H (p, q, below, at, (found, call), is) = record {
   j = j;
@@ -76,9 +74,8 @@ one-goes w (Lose j object stripe) ps next H (p, q, below, at, (found, call), is)
   between = (tt, tt);
   happens = λ n. replaces-at w j (λ held. IsSome (held object stripe)) (without_block object stripe)
       (nat_lt j w.handed) (lt-ltb j w.handed (let c = H.count in omega (arith, c, below))) found q
-      (subst (λ o. Replaces (λ held. IsSome (held object stripe)) (without_block object stripe) found o q)
-      (given-at w ps j p H below at) call);
-  handed = subst (λ l. AreHanded l (replaced_in w j q)) (sym is) (handed-set w ps j q H below);
+      (rw (given-at w ps j p H below at) at call);
+  handed = rw (← is) at (handed-set w ps j q H below);
 }
 one-goes w event ps next H h = absurd h
 
@@ -96,13 +93,12 @@ both-between (m ∷ own) more (here, a) b = (here, both-between own more a b)
 -- one moment before them goes on with them
 goes-after : (start : State) (m : Moment) (ms : List Moment) (next : Seen) → AreBetween (m ∷ []) →
     GoesBetween start (m ∷ ms) next → GoesBetween start ms next
-goes-after start m ms next between more =
-    (let same : more.0 ++ (m ∷ ms) ≡ (more.0 ++ m ∷ []) ++ ms = sym (append_assoc more.0 (m ∷ []) ms) in (
-      more.0 ++ m ∷ [],
-      both-between more.0 (m ∷ []) more.1 between,
-      subst (λ l. IsRun 8 start l) same more.2,
-      subst (λ l. IsStore (now start l) next) same more.3,
-    ))
+goes-after start m ms next between more = (let same = sym (append_assoc more.0 (m ∷ []) ms) in (
+  more.0 ++ m ∷ [],
+  both-between more.0 (m ∷ []) more.1 between,
+  (rw same at more.2),
+  (rw same at more.3),
+))
 
 -- the store with other providers
 store-replaced : (w : State) (s next : Seen) (j : ℕ) (q : Provider) → IsStore w s →
@@ -111,8 +107,7 @@ store-replaced : (w : State) (s next : Seen) (j : ℕ) (q : Provider) → IsStor
 store-replaced w s next j q S sound disk faults handed = record {
   sound = sound;
   tells = ap is_some disk ∙ S.tells;
-  images = subst (λ d. StandsForState d (replaced_in w j q)) (sym disk)
-      (each_image-mono s.disk _ _ again S.images);
+  images = rw (← disk) at (each_image-mono s.disk _ _ again S.images);
   faults_are = S.faults_are ∙ sym faults;
   handed = handed;
 }
@@ -128,9 +123,9 @@ store-same : (w : State) (s next : Seen) → IsStore w s → next.disk ≡ s.dis
 store-same w s next S disk faults providers = record {
   sound = S.sound;
   tells = ap is_some disk ∙ S.tells;
-  images = subst (λ d. StandsForState d w) (sym disk) S.images;
+  images = rw (← disk) at S.images;
   faults_are = S.faults_are ∙ sym faults;
-  handed = subst (λ ps. AreHanded ps w) (sym providers) S.handed;
+  handed = rw (← providers) at S.handed;
 }
 
 -- what is seen with other providers
@@ -148,10 +143,10 @@ replaced-on start (event ∷ events) ms s next R S disk faults (spelled, (mid, h
     let v : State = replaced_in w G.j G.q in
     let m : Moment = moment event G.outcome v in
     let run : IsRun 8 start (m ∷ ms) = (spelled, G.happens (length ms), R) in
-    let stood : IsStore v (with_providers s mid) = store-replaced w s (with_providers s mid) G.j G.q S
-    (run-sound start (m ∷ []) ms S.sound run) refl refl G.handed in
     goes-after start m ms next G.between
-    (replaced-on start events (m ∷ ms) (with_providers s mid) next run stood disk faults rest))
+    (replaced-on start events (m ∷ ms) (with_providers s mid) next run
+    (store-replaced w s (with_providers s mid) G.j G.q S
+    (run-sound start (m ∷ []) ms S.sound run) refl refl G.handed) disk faults rest))
 
 -- a run goes on through stops and replacements to what the next command finds
 pub later-on : (start : State) (ms : List Moment) (new next : Seen) → IsRun 8 start ms →
@@ -166,8 +161,7 @@ later-on start ms new next R S L = elim L.disk [
     stopped-on : (image : List ℕ) → next.disk ≡ Some (firm image) → (records journal : List Record)
         (area : Area) → SettlesOn (now start ms) records journal area →
         StandsPlain (settled (now start ms) records journal area) image → GoesBetween start ms next
-    stopped-on image disk records journal area settles stands =
-        (let w : State = now start ms in
+    stopped-on image disk records journal area settles stands = (let w : State = now start ms in
         let v : State = settled w records journal area in
         let m : Moment = moment (Stop []) HasStopped v in
         let run : IsRun 8 start (m ∷ ms) = (refl, settles w refl refl refl refl refl, R) in
@@ -198,16 +192,15 @@ pub chain-on : (start : State) (ms : List Moment) (first : Seen) (calls : List C
     (own : List Moment) × AreCalls (now start ms) calls own × IsRun 8 start (own ++ ms) ×
     IsStore (now start (own ++ ms)) (last_seen first calls)
 chain-on start ms first [] R S C = ([], refl, R, S)
-chain-on start ms first (c ∷ cs) R S (later, A, C) =
-    (let before = chain-on start ms first cs R S C in
+chain-on start ms first (c ∷ cs) R S (later, A, C) = (let before = chain-on start ms first cs R S C in
     let between = later-on start (before.0 ++ ms) (last_seen first cs) c.old before.2 before.3 later in
     let call = command-on start (between.0 ++ (before.0 ++ ms)) between.2 c.old between.3 c.command c.new
     c.end A.counts A.opens A.spelled A.answers in
-    let inner : between.0 ++ (before.0 ++ ms) ≡ (between.0 ++ before.0) ++ ms =
+    let inner =
     sym (append_assoc between.0 before.0 ms) in
-    let all : call.0 ++ (between.0 ++ (before.0 ++ ms)) ≡ (call.0 ++ (between.0 ++ before.0)) ++ ms =
+    let all =
     ap (λ l. call.0 ++ l) inner ∙ sym (append_assoc call.0 (between.0 ++ before.0) ms) in
-    let at : now start (between.0 ++ (before.0 ++ ms)) ≡ now (now start ms) (between.0 ++ before.0) =
+    let at =
     ap (now start) inner ∙ now-more start (between.0 ++ before.0) ms in (
       call.0 ++ (between.0 ++ before.0),
       (
@@ -219,16 +212,15 @@ chain-on start ms first (c ∷ cs) R S (later, A, C) =
         between.1,
         before.1,
       ),
-      subst (λ l. IsRun 8 start l) all call.2,
-      subst (λ l. IsStore (now start l) c.new) all call.3,
+      (rw all at call.2),
+      (rw all at call.3),
     ))
 
 -- ---- over each known store there is a state
 
 -- a sound state stands for each store that is sure
 pub sure-store : (s : Seen) (records : List Record) → IsSure s records → (w : State) × IsStore w s
-sure-store s records K =
-    (let w : State = opened_state K.known.opened.area records s.disk_faults s.providers in
+sure-store s records K = (let w = opened_state K.known.opened.area records s.disk_faults s.providers in
     let V = state-over records s.disk_faults s K.known.opened in (
       w,
       record {

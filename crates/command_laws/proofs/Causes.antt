@@ -1,5 +1,5 @@
 -- A status of a fault comes only where the count of that device rose.
-use Rattle.command_laws.proofs.Words.{◌≡◌, ℕ, ◌==◌, Bool, true, false, List, Option, refl, ap, sym, ◌∙◌, subst, inl, inr, arith, false≢true, not_two, Rose, Record, Area, Kind, PutJob, GetJob, DropJob, AuditJob, RepairJob, UpgradeJob, Answer, Refusal, Command, Numbers, PutUnder, PutAt, GetOf, DropOf, ListAll, AuditAll, RepairAll, UpgradeJournal, ScrubAll, PackJournal, WritesLine, Seen, Ending, provider_at, sinking, Unstarted, status_of, Ran, AnswersJob, EndsByAnswer, LeavesBy, LeftAlone, AnswersInit, InitsDisk, ScrubbedAlone, AnswersScrub, PackLeaves, AnswersPack, AnswersPut, AnswersAlone, AnswersList, Answers, FaultsHaveCauses, opens_store, rose-before}
+use Rattle.command_laws.proofs.Words.{◌≡◌, ℕ, ◌==◌, Bool, true, false, List, Option, refl, ap, sym, ◌∙◌, subst, inl, inr, arith, false≢true, not_two, Rose, Record, Area, Kind, PutJob, GetJob, DropJob, AuditJob, RepairJob, UpgradeJob, Answer, Refusal, Command, Numbers, PutUnder, WritesLine, Seen, Ending, provider_at, sinking, Unstarted, status_of, Ran, AnswersJob, EndsByAnswer, LeavesBy, LeftAlone, AnswersInit, InitsDisk, ScrubbedAlone, AnswersScrub, PackLeaves, AnswersPack, AnswersPut, AnswersAlone, AnswersList, Answers, FaultsHaveCauses, opens_store, rose-before}
 use Rattle.std.specs.Prelude.{if◌then◌else◌}
 use Rattle.machine_defs.specs.Answers as answer
 use Rattle.machine_defs.specs.Refusals as refusal
@@ -76,12 +76,10 @@ module _ (old new : Seen) (end : Ending) where
   -- what a job left that ended in a fault
   disk-by : (x : Ran) (kind : Kind) (own : Option ℕ) → LeavesBy x kind own answer.DiskFault →
       Rose x.disk_before x.disk_after
-  disk-by x (PutJob name bytes) own L = L.0.0
   disk-by x (GetJob name) own L = absurd L.gives
-  disk-by x (DropJob name) own L = L.0.0
   disk-by x AuditJob own L = L.gives.0
   disk-by x RepairJob own L = L.0.gives.0
-  disk-by x UpgradeJob own L = L.0.0
+  disk-by x _ own L = L.0.0
 
   provider-by : (x : Ran) (kind : Kind) (own : Option ℕ) (j : ℕ) →
       LeavesBy x kind own (answer.ProviderFault j) → Rose (x.old j).store_faults (x.new j).store_faults
@@ -96,14 +94,11 @@ module _ (old new : Seen) (end : Ending) where
       (how : Answer) → LeftAlone area records kind own how old new end.heard →
       EndsByAnswer text how old new end → FaultsHaveCauses old new end
   ended-causes kind own records text (answer.Lost stripe row) left by = none-rose 4 refl by.status_is
-  ended-causes kind own records text (answer.ProviderFault j) left by =
-      provider-rose by.status_is
+  ended-causes kind own records text (answer.ProviderFault j) left by = provider-rose by.status_is
       (subst (λ k. Rose (provider_at old.providers k).store_faults (provider_at new.providers k).store_faults)
-      (sym by.place)
-      (provider-by (ran_left records kind (answer.ProviderFault j) old new end.heard left) kind own j
-      left.leaves.by_kind))
-  ended-causes kind own records text answer.DiskFault left by =
-      disk-rose by.status_is
+      (sym by.place) (provider-by (ran_left records kind (answer.ProviderFault j) old new end.heard left) kind
+      own j left.leaves.by_kind))
+  ended-causes kind own records text answer.DiskFault left by = disk-rose by.status_is
       (rose-before old.disk_faults left.faults new.disk_faults left.before left.leaves.counts.disk
       (disk-by (ran_left records kind answer.DiskFault old new end.heard left) kind own left.leaves.by_kind))
   ended-causes kind own records text answer.Memory left by = none-rose 70 refl by.status_is
@@ -143,9 +138,7 @@ module _ (old new : Seen) (end : Ending) where
       EndsByAnswer text how old new end → FaultsHaveCauses old new end
   scrub-by records text (answer.Lost stripe row) left by = none-rose 4 refl by.status_is
   scrub-by records text (answer.ProviderFault j) left by =
-      provider-rose by.status_is
-      (subst (λ k. Rose (provider_at old.providers k).store_faults (provider_at new.providers k).store_faults)
-      (sym by.place) left.leaves.gives.1)
+      provider-rose by.status_is (rw (← by.place) at left.leaves.gives.1)
   scrub-by records text answer.Memory left by = none-rose 70 refl by.status_is
   scrub-by records text (answer.Scrubbed stripes symbols blocks) left by = written-causes text by.written
   scrub-by records text how left by = absurd left.leaves.gives
@@ -193,13 +186,5 @@ module _ (old new : Seen) (end : Ending) where
   pub store-causes : (command : Command) → Answers command old new end → opens_store command ≡ true →
       FaultsHaveCauses old new end
   store-causes (PutUnder name) A opens = put-causes name A
-  store-causes (PutAt name profile) A opens = put-causes name A
-  store-causes (GetOf name) A opens = alone-causes (GetJob name) A.0
-  store-causes (DropOf name) A opens = alone-causes (DropJob name) A.0
-  store-causes ListAll A opens = list-causes A.0
-  store-causes AuditAll A opens = alone-causes AuditJob A.0
-  store-causes RepairAll A opens = alone-causes RepairJob A.0
-  store-causes UpgradeJournal A opens = alone-causes UpgradeJob A.0
-  store-causes ScrubAll A opens = scrub-causes A.0
-  store-causes PackJournal A opens = pack-causes A.0
-  store-causes command A opens = absurd (false≢true opens)
+  store-causes command A opens =
+      first_of (cc, search (put-causes, alone-causes, list-causes, scrub-causes, pack-causes))

@@ -1,5 +1,5 @@
 -- Commands whose source failed, or has more bytes than a file may have: which end so, and what they leave.
-use Rattle.command_laws.proofs.Words.{◌≡◌, ◌⊎◌, ℕ, List, Option, Some, None, refl, sym, ◌∙◌, inl, inr, arith, Record, Area, Kind, PutJob, GetJob, DropJob, AuditJob, RepairJob, UpgradeJob, Command, Numbers, RowOf, InitWith, PutUnder, PutAt, GetOf, DropOf, ListAll, AuditAll, RepairAll, UpgradeJournal, ScrubAll, PackJournal, Seen, Ending, IsRefused, sinking, WritesLine, refusal_over, pack_refusal_over, AnswersInit, InitsDisk, AnswersScrub, AnswersPack, AnswersPut, AnswersAlone, AnswersList, Answers, put_of, GivesUpPut}
+use Rattle.command_laws.proofs.Words.{◌≡◌, ◌⊎◌, ℕ, List, Option, Some, None, refl, sym, ◌∙◌, inl, inr, arith, Record, Area, Kind, PutJob, GetJob, DropJob, AuditJob, RepairJob, UpgradeJob, Command, Numbers, RowOf, InitWith, PutUnder, PutAt, ListAll, ScrubAll, PackJournal, Seen, Ending, IsRefused, sinking, WritesLine, refusal_over, pack_refusal_over, AnswersInit, InitsDisk, AnswersScrub, AnswersPack, AnswersPut, AnswersAlone, AnswersList, Answers, put_of, GivesUpPut}
 use Rattle.machine_defs.specs.Refusals as refusal
 use Rattle.command_laws.proofs.Known.{refused-not, told-refusal, status-written, status-ended}
 use Rattle.command_laws.proofs.InitEnds.{init-not}
@@ -19,9 +19,8 @@ kind-short : (area : Area) (kind : Kind) (records : List Record) → ReadsNone k
 kind-short area (PutJob name bytes) records none = absurd none
 kind-short area (GetJob name) records none =
     never _ refusal.BadName _ (λ e. cc) (never _ refusal.NoSuchName None (λ e. cc) (λ e. cc))
-kind-short area (DropJob name) records none =
-    never _ refusal.BadName _ (λ e. cc) (never _ refusal.NoSuchName _ (λ e. cc)
-    (never _ refusal.JournalFull None (λ e. cc) (λ e. cc)))
+kind-short area (DropJob name) records none = never _ refusal.BadName _ (λ e. cc)
+    (never _ refusal.NoSuchName _ (λ e. cc) (never _ refusal.JournalFull None (λ e. cc) (λ e. cc)))
 kind-short area AuditJob records none =
     never _ refusal.RepairDue _ (λ e. cc) (never _ refusal.JournalFull None (λ e. cc) (λ e. cc))
 kind-short area RepairJob records none =
@@ -41,14 +40,12 @@ written-cut text old new end w cut = ended-cut end.status (status-written text o
 
 list-cut : (old new : Seen) (end : Ending) → AnswersList old new end → IsCut end.status → ⊥
 list-cut old new end (AnswersList.unstarted u) cut = unstarted-cut old new end u cut
-list-cut old new end (AnswersList.no_memory r) cut =
-    cut-not 70 r.status_is refl cut
+list-cut old new end (AnswersList.no_memory r) cut = cut-not 70 r.status_is refl cut
 list-cut old new end (AnswersList.listed records opened L) cut = written-cut _ old new end L.written cut
 
 scrub-cut : (old new : Seen) (end : Ending) → AnswersScrub old new end → IsCut end.status → ⊥
 scrub-cut old new end (AnswersScrub.unstarted u) cut = unstarted-cut old new end u cut
-scrub-cut old new end (AnswersScrub.no_memory records opened synced r) cut =
-    cut-not 70 r.status_is refl cut
+scrub-cut old new end (AnswersScrub.no_memory records opened synced r) cut = cut-not 70 r.status_is refl cut
 scrub-cut old new end (AnswersScrub.ended records how opened synced heard runs left by) cut =
     ended-cut end.status (status-ended _ how old new end by) cut
 
@@ -63,19 +60,15 @@ pack-cut old new end (AnswersPack.refused records why opened is synced r) (inl e
     refused-not why 14 refl (λ k. omega (arith, k)) (sym r.status_is ∙ e)
 pack-cut old new end (AnswersPack.refused records why opened is synced r) (inr e) =
     pack-short opened.area records (is ∙ told-refusal end why refusal.TooLong
-    (λ k. let f : 16 ≡ 70 = sym e ∙ (r.status_is ∙ k) in omega (arith, f)) r.status_is
-    (λ k. omega (arith, k)) e)
-pack-cut old new end (AnswersPack.no_memory records opened synced r) cut =
-    cut-not 70 r.status_is refl cut
+    (λ k. omega (arith, sym e ∙ (r.status_is ∙ k))) r.status_is (λ k. omega (arith, k)) e)
+pack-cut old new end (AnswersPack.no_memory records opened synced r) cut = cut-not 70 r.status_is refl cut
 pack-cut old new end (AnswersPack.ended records how opened none heard runs left by) cut =
     ended-cut end.status (status-ended _ how old new end by) cut
 
 row-cut : (n l b : ℕ) (seen : List (Option ℕ)) (old new : Seen) (end : Ending) →
     Answers (RowOf n l b seen) old new end → IsCut end.status → ⊥
-row-cut n l b seen old new end A (inl is) =
-    none-at n l b seen old new end A.0 14 is refl
-row-cut n l b seen old new end A (inr is) =
-    none-at n l b seen old new end A.0 16 is refl
+row-cut n l b seen old new end A (inl is) = none-at n l b seen old new end A.0 14 is refl
+row-cut n l b seen old new end A (inr is) = none-at n l b seen old new end A.0 16 is refl
 
 -- ---- an init and a put
 
@@ -97,12 +90,10 @@ put-cut name own old new end (AnswersPut.bad_profile records opened unknown sync
     absurd (cut-not 20 r.status_is refl cut)
 put-cut name own old new end (AnswersPut.source_fault records opened known rose synced taken r) cut =
     inl (r.status_is, r)
-put-cut name own old new end (AnswersPut.no_memory taken r) cut =
-    absurd (cut-not 70 r.status_is refl cut)
+put-cut name own old new end (AnswersPut.no_memory taken r) cut = absurd (cut-not 70 r.status_is refl cut)
 put-cut name own old new end (AnswersPut.begun records bytes opened known read few A whole one) cut =
     absurd (job-cut (PutJob name bytes) own records old new end
-    (short-never opened.area records name bytes own few) A
-    cut)
+    (short-never opened.area records name bytes own few) A cut)
 put-cut name own old new end (AnswersPut.given_up records bytes opened known none stops runs left) cut =
     inr (given-gives name bytes own records old new end opened known none stops left)
 
@@ -125,14 +116,10 @@ command-cut (PutAt name profile) old new end A cut = elim (put-cut name (Some pr
   | inl same ↦ inl same
   | inr given ↦ inr (name, Some profile, refl, given)
 ]
-command-cut (GetOf name) old new end A cut = absurd (alone-cut (GetJob name) old new end tt A.0 cut)
-command-cut (DropOf name) old new end A cut = absurd (alone-cut (DropJob name) old new end tt A.0 cut)
 command-cut ListAll old new end A cut = absurd (list-cut old new end A.0 cut)
-command-cut AuditAll old new end A cut = absurd (alone-cut AuditJob old new end tt A.0 cut)
-command-cut RepairAll old new end A cut = absurd (alone-cut RepairJob old new end tt A.0 cut)
-command-cut UpgradeJournal old new end A cut = absurd (alone-cut UpgradeJob old new end tt A.0 cut)
 command-cut ScrubAll old new end A cut = absurd (scrub-cut old new end A.0 cut)
 command-cut PackJournal old new end A cut = absurd (pack-cut old new end A.0 cut)
+command-cut command old new end A cut = absurd (alone-cut _ old new end tt A.0 cut)
 
 -- a command whose source failed has changed nothing, or is a put that was given up
 pub source-told : (command : Command) (old new : Seen) (end : Ending) → Answers command old new end →
@@ -146,6 +133,6 @@ source-told command old new end A is = elim (command-cut command old new end A (
 pub long-told : (command : Command) (old new : Seen) (end : Ending) → Answers command old new end →
     end.status ≡ 16 → IsGivenUp command old new end
 long-told command old new end A is = elim (command-cut command old new end A (inr is)) [
-  | inl same ↦ absurd (let e : 14 ≡ 16 = sym same.0 ∙ is in omega (arith, e))
+  | inl same ↦ absurd (omega (arith, sym same.0 ∙ is))
   | inr given ↦ given
 ]

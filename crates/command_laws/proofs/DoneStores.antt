@@ -1,5 +1,5 @@
 -- The records of a store after a command that is done, and after any command.
-use Rattle.command_laws.proofs.Words.{◌≡◌, ◌≢◌, ℕ, ◌+◌, ◌<◌, ◌≤◌, ◌⊎◌, Bool, true, false, List, [], ◌∷◌, length, Option, None, Some, refl, ap, sym, subst, ◌∙◌, inl, inr, arith, is_some, IfSome, option_map, and_from, false≢true, nat_tests, is_some-option_map, Cells, reads, firm, synced, Stopped, EachImage, Record, Setup, SetUp, is_master, is_setup, is_in_grammar, largest_file, largest_journal, Area, other_area, StandsActive, StandsFor, AreAlike, packed, Due, next_audit, due_of, Kind, PutJob, GetJob, DropJob, AuditJob, RepairJob, UpgradeJob, Answer, Command, Numbers, PutUnder, PutAt, GetOf, DropOf, ListAll, AuditAll, RepairAll, UpgradeJournal, ScrubAll, PackJournal, IsKeyForm, Seen, Ending, IsRefused, IsSynced, ReadsUpTo, journal_read, IsSetUpOn, IsOpened, setup_in_effect, refusal_over, pack_refusal_over, audit_lines, setup_with, AnswersInit, GetLeaves, AnswersJob, SameOutside, outside, with_next, IsTold, put_stripe, after_begin, StopsReading, PartRuns, PartLeft, ScrubsAlone, AnswersScrub, PackedAlone, AnswersPack, AnswersPut, AnswersAlone, AnswersList, Answers, MayName, IsDone, IsKnown, profile_named, RunsKind, DiskHas, opens_store, after_put, after_drop, after_audit, after_repair, after_upgrade, IsAfter, IsSure, Follows, IsThen, reads-firm, image-firm, each_image-mono, IsImage-reads, active-front, one_list, same_value, is_some-at, IsKeyForm-once, set_up-firm, set_up-stands}
+use Rattle.command_laws.proofs.Words.{◌≡◌, ℕ, ◌+◌, ◌<◌, ◌≤◌, ◌⊎◌, Bool, true, false, List, [], ◌∷◌, length, Option, None, Some, refl, ap, sym, subst, ◌∙◌, inl, inr, arith, is_some, IfSome, option_map, and_from, false≢true, nat_tests, is_some-option_map, Cells, reads, firm, synced, Stopped, EachImage, Record, Setup, SetUp, is_master, is_setup, is_in_grammar, largest_file, largest_journal, Area, end_in, other_area, StandsActive, StandsFor, AreAlike, packed, Due, next_audit, due_of, Kind, PutJob, GetJob, DropJob, AuditJob, RepairJob, UpgradeJob, Answer, Command, Numbers, PutUnder, PutAt, ListAll, ScrubAll, PackJournal, IsKeyForm, Seen, Ending, IsRefused, IsSynced, ReadsUpTo, journal_read, IsSetUpOn, IsOpened, setup_in_effect, refusal_over, pack_refusal_over, audit_lines, setup_with, AnswersInit, AnswersJob, SameOutside, outside, with_next, IsTold, put_stripe, after_begin, StopsReading, PartRuns, PartLeft, ScrubsAlone, AnswersScrub, PackedAlone, AnswersPack, AnswersPut, AnswersAlone, AnswersList, Answers, MayName, IsDone, IsKnown, profile_named, RunsKind, DiskHas, opens_store, after_put, after_drop, after_audit, after_repair, after_upgrade, IsAfter, IsSure, Follows, IsThen, reads-firm, image-firm, each_image-mono, IsImage-reads, active-front, one_list, same_value, is_some-at, IsKeyForm-once, set_up-firm, set_up-stands, RowOf, InitWith}
 use Rattle.std.specs.Prelude.{IsTrue}
 use Rattle.hex.proofs.HexLemmas.{decode_of-ok}
 use Rattle.device_defs.specs.Told.{Goes}
@@ -8,7 +8,6 @@ use Rattle.record_codec.proofs.Takes.{IsBytes-all}
 use Rattle.machine_defs.specs.Answers as answer
 use Rattle.command_laws.proofs.Known.{known-once, known-both, alone-known}
 use Rattle.command_laws.proofs.JobEnds.{put-done, drop-done, audit-done, repair-done, upgrade-done, read-all, given-kind, images-have, cut-not, unstarted-cut, job-cut, short-never}
-use Rattle.command_laws.proofs.GetEnds.{ran_left}
 use Rattle.command_laws.proofs.InitEnds.{form-all, init-done, list-done}
 use Rattle.command_laws.proofs.Images.{known-images}
 use Rattle.command_laws.proofs.Failed.{put-fails, repair-fails, repair-loses}
@@ -17,7 +16,7 @@ use Rattle.command_laws.proofs.PackEnds.{pack-done, pack-alike}
 use Rattle.command_laws.proofs.PackStores.{pack-good}
 use Rattle.command_laws.proofs.Knowing.{IsGood, MayBeGood, sure-good, known-good, LeavesGood, HasBytes, ran-good, part-good, spelled-kind}
 use Rattle.command_laws.proofs.Afterwards.{sure-refused, sure-next}
-use Rattle.command_laws.proofs.Early.{pack-cases, IsEarly, early-at, early-why, early-done, early-not, unstarted-early, job-cases, list-cases}
+use Rattle.command_laws.proofs.Early.{pack-cases, IsEarly, early-at, early-why, early-done, early-not, unstarted-early, alone-cases, list-cases}
 
 -- ---- statuses of a job that came to its end by itself
 
@@ -60,11 +59,10 @@ job-comes : (kind : Kind) (records : List Record) (old new : Seen) (end : Ending
 job-comes kind records old new end R are named (AnswersJob.refused why is synced r) = inl (early-why why r)
 job-comes kind records old new end R are named (AnswersJob.no_memory synced r) =
     inl (early-at 70 0 refl refl r)
-job-comes kind records old new end R are named (AnswersJob.ended how none runs left by) =
-    inr (
-      ran-good records kind how old new end.heard R (spelled-kind R.area records kind _ are none) named runs,
-      tells-outside R.area kind _ how records left.after old.disk new.disk left.outside_text,
-    )
+job-comes kind records old new end R are named (AnswersJob.ended how none runs left by) = inr (
+  ran-good records kind how old new end.heard R (spelled-kind R.area records kind _ are none) named runs,
+  tells-outside R.area kind _ how records left.after old.disk new.disk left.outside_text,
+)
 
 alone-comes : (kind : Kind) (records : List Record) (old new : Seen) (end : Ending) → IsKnown old records →
     HasBytes kind → AnswersAlone kind old new end → Comes records old new end
@@ -81,8 +79,7 @@ given-left : (name bytes : List ℕ) (own : Option ℕ) (records : List Record) 
     PartRuns opened.area records name bytes own old new →
     PartLeft opened.area records name bytes own old new → Left records old new
 given-left name bytes own records old new end R none stops runs left = (
-  part-good records name bytes own old new R
-      (spelled-kind R.area records (PutJob name bytes) own
+  part-good records name bytes own old new R (spelled-kind R.area records (PutJob name bytes) own
       (given-kind R.area name bytes own records old new end none stops).0 none) (MayName.put name bytes refl)
       runs,
   sym (is_some-option_map (outside R.area (after_begin records name)) new.disk)
@@ -98,11 +95,11 @@ put-comes name records old new end K (AnswersPut.bad_profile other opened unknow
     inl (early-at 20 0 refl refl r)
 put-comes name records old new end K (AnswersPut.no_memory taken r) = inl (early-at 70 0 refl refl r)
 put-comes name records old new end K (AnswersPut.given_up other bytes opened known none stops runs left) =
-    inr (subst (λ rs. Left rs old new) (known-once old records other K opened.read)
-    (given-left name bytes _ other old new end opened none stops runs left))
+    inr (rw (known-once old records other K opened.read) at (given-left name bytes _ other old new end opened
+    none stops runs left))
 put-comes name records old new end K (AnswersPut.begun other bytes opened known read few A whole one) =
-    subst (λ rs. Comes rs old new end) (known-once old records other K opened.read)
-    (job-comes (PutJob name bytes) other old new end opened read.are_bytes (MayName.put name bytes refl) A)
+    rw (known-once old records other K opened.read) at (job-comes (PutJob name bytes) other old new end opened
+    read.are_bytes (MayName.put name bytes refl) A)
 
 -- a command that is over, and is not refused, leaves what is good
 comes-over : {old new : Seen} {end : Ending} {L : Type 0} → IsOver end.status → IsEarly old new end ⊎ L → L
@@ -120,8 +117,7 @@ put-over name records old new end K A over = comes-over over (put-comes name rec
 
 sure-left : (records : List Record) (area : Area) (after : List Record) (old new : Seen) →
     IsKnown old records → Left records old new → DiskHas area after new → IsSure new after
-sure-left records area after old new K L has =
-    (let c = is_some-at new.disk (L.1 ∙ K.tells) in
+sure-left records area after old new K L has = (let c = is_some-at new.disk (L.1 ∙ K.tells) in
     sure-good (setup_in_effect records) new c.0 area after c.1 L.0.0 L.0.1 has)
 
 -- ---- what was read of a source that tells
@@ -138,21 +134,18 @@ whole-read most old new bytes seen is R whole =
 pub put-sure : (name bytes : List ℕ) (own : Option ℕ) (records : List Record) (old new : Seen)
     (end : Ending) → AnswersPut name own old new end → IsDone end → IsKnown old records →
     old.source ≡ Some bytes → IsSure new (after_put records name (length bytes) own)
-put-sure name bytes own records old new end A done K source =
-    (let P = put-done name own old new end A done in
+put-sure name bytes own records old new end A done K source = (let P = put-done name own old new end A done in
     let read = whole-read (largest_file + 1) old.source new.source bytes P.bytes source P.read P.whole in
-    let has : DiskHas K.opened.area (after_put records name (length bytes) own) new =
-    known-both old records P.records K P.opened (λ a rs. DiskHas a (after_put rs name (length bytes) own) new)
-    (subst (λ bs. DiskHas P.opened.area (after_put P.records name (length bs) own) new) read P.disk) in
     sure-left records K.opened.area (after_put records name (length bytes) own) old new K
-    (put-over name records old new end K A (inl done)) has)
+    (put-over name records old new end K A (inl done)) (known-both old records P.records K P.opened
+    (λ a rs. DiskHas a (after_put rs name (length bytes) own) new)
+    (subst (λ bs. DiskHas P.opened.area (after_put P.records name (length bs) own) new) read P.disk)))
 
 -- after a done drop the store is sure, with the drop's record
 pub drop-sure : (name : List ℕ) (records : List Record) (old new : Seen) (end : Ending) →
     AnswersAlone (DropJob name) old new end → IsDone end → IsKnown old records →
     IsSure new (after_drop records name)
-drop-sure name records old new end A done K =
-    (let P = drop-done name old new end A done in
+drop-sure name records old new end A done K = (let P = drop-done name old new end A done in
     sure-left records K.opened.area (after_drop records name) old new K
     (alone-over (DropJob name) records old new end K tt A (inl done))
     (known-both old records P.records K P.opened (λ a rs. DiskHas a (after_drop rs name) new) P.disk))
@@ -163,8 +156,7 @@ pub audit-sure : (records : List Record) (old new : Seen) (end : Ending) → Ans
     IsSure new (after_audit records undecided counts)
     × IsTold (audit_lines (setup_in_effect records).tolerance (next_audit records) undecided counts) old new
     end
-audit-sure records old new end A done K =
-    (let P = audit-done old new end A done in
+audit-sure records old new end A done K = (let P = audit-done old new end A done in
     let same = known-once old records P.records K P.opened.read in (
       P.undecided,
       P.counts,
@@ -172,54 +164,38 @@ audit-sure records old new end A done K =
           (alone-over AuditJob records old new end K tt A (inl done))
           (known-both old records P.records K P.opened
           (λ a rs. DiskHas a (after_audit rs P.undecided P.counts) new) P.disk),
-      subst (λ rs. IsTold (audit_lines (setup_in_effect rs).tolerance (next_audit rs) P.undecided P.counts)
-          old new end) same P.told,
+      (rw same at P.told),
     ))
 
 -- after a done repair the store is sure, with the repair's record
 pub repair-sure : (records : List Record) (due : Due) (old new : Seen) (end : Ending) →
     AnswersAlone RepairJob old new end → IsDone end → IsKnown old records → due_of records ≡ Some due →
     IsSure new (after_repair records due)
-repair-sure records due old new end A done K is_due =
-    (let P = repair-done old new end A done in
-    let same = known-once old records P.records K P.opened.read in
-    let due_is : P.due ≡ due = same_value (due_of records) P.due due
-    (ap due_of (sym same) ∙ P.is_due) is_due in
-    let has : DiskHas K.opened.area (after_repair records due) new =
-    known-both old records P.records K P.opened (λ a rs. DiskHas a (after_repair rs due) new)
-    (subst (λ d. DiskHas P.opened.area (after_repair P.records d) new) due_is P.disk) in
+repair-sure records due old new end A done K is_due = (let P = repair-done old new end A done in
+    let due_is = same_value (due_of records) P.due due
+    (ap due_of (sym (known-once old records P.records K P.opened.read)) ∙ P.is_due) is_due in
     sure-left records K.opened.area (after_repair records due) old new K
-    (alone-over RepairJob records old new end K tt A (inl done)) has)
+    (alone-over RepairJob records old new end K tt A (inl done)) (known-both old records P.records K P.opened
+    (λ a rs. DiskHas a (after_repair rs due) new)
+    (subst (λ d. DiskHas P.opened.area (after_repair P.records d) new) due_is P.disk)))
 
 -- after a done upgrade the store is sure, with the upgrade's record
 pub upgrade-sure : (records : List Record) (old new : Seen) (end : Ending) →
     AnswersAlone UpgradeJob old new end → IsDone end → IsKnown old records →
     IsSure new (after_upgrade records)
-upgrade-sure records old new end A done K =
-    (let P = upgrade-done old new end A done in
+upgrade-sure records old new end A done K = (let P = upgrade-done old new end A done in
     sure-left records K.opened.area (after_upgrade records) old new K
     (alone-over UpgradeJob records old new end K tt A (inl done))
     (known-both old records P.records K P.opened (λ a rs. DiskHas a (after_upgrade rs) new) P.disk))
 
--- a get appends nothing
-get-has : (name : List ℕ) (records : List Record) (old new : Seen) (end : Ending) →
-    (opened : IsOpened old records) → AnswersJob (GetJob name) None opened.area records old new end →
-    IsOver end.status → DiskHas opened.area records new
-get-has name records old new end R A over = job-cases (λ E. absurd (over-early E over))
-    (λ how none left by. let L : GetLeaves (ran_left records (GetJob name) how old new end.heard left) name how
-    = left.leaves.by_kind in
-    images-have R.area new.disk left.after left.doubt records L.records L.sure left.images) A
-
 -- after a get that is over the store is sure, with the same records
 pub get-sure : (name : List ℕ) (records : List Record) (old new : Seen) (end : Ending) →
     AnswersAlone (GetJob name) old new end → IsOver end.status → IsKnown old records → IsSure new records
-get-sure name records old new end A over K = elim (alone-known (GetJob name) old new end records K A) [
-  | inl (inl (rose, r)) ↦ absurd (over-early (early-at 12 0 refl refl r) over)
-  | inl (inr r) ↦ absurd (over-early (early-at 70 0 refl refl r) over)
-  | inr job ↦ sure-left records K.opened.area records old new K
-      (comes-over over (job-comes (GetJob name) records old new end K.opened tt (MayName.none refl) job))
-      (get-has name records old new end K.opened job over)
-]
+get-sure name records old new end A over K = sure-left records K.opened.area records old new K
+    (alone-over (GetJob name) records old new end K tt A over)
+    (alone-cases (λ E. absurd (over-early E over)) (λ other opened how none left by.
+    let L = left.leaves.by_kind in known-both old records other K opened (λ a rs. DiskHas a rs new)
+    (images-have opened.area new.disk left.after left.doubt other L.records L.sure left.images)) A)
 
 -- ---- a store that failed, and a row that a repair lost
 
@@ -227,8 +203,7 @@ get-sure name records old new end A over K = elim (alone-known (GetJob name) old
 pub failed-put-sure : (name : List ℕ) {own : Option ℕ} (records : List Record) (old new : Seen)
     (end : Ending) → AnswersPut name own old new end → end.status ≡ 13 → IsKnown old records →
     IsSure new (after_begin records name)
-failed-put-sure name records old new end A failed K =
-    (let P = put-fails name old new end A failed in
+failed-put-sure name records old new end A failed K = (let P = put-fails name old new end A failed in
     sure-left records K.opened.area (after_begin records name) old new K
     (put-over name records old new end K A (inr (inr failed)))
     (known-both old records P.records K P.opened (λ a rs. DiskHas a (after_begin rs name) new) P.disk))
@@ -251,8 +226,8 @@ cut-put-sure name own records old new end (AnswersPut.begun other bytes opened k
     (short-never opened.area other name bytes own few) A cut)
 cut-put-sure name own records old new end (AnswersPut.given_up other bytes opened known none stops runs left) cut K =
     inr (sure-left records K.opened.area (after_begin records name) old new K
-    (subst (λ rs. Left rs old new) (known-once old records other K opened.read)
-    (given-left name bytes own other old new end opened none stops runs left))
+    (rw (known-once old records other K opened.read) at (given-left name bytes own other old new end opened
+    none stops runs left))
     (known-both old records other K opened (λ a rs. DiskHas a (after_begin rs name) new) left.images))
 
 -- so it is after one whose source was too long
@@ -261,7 +236,7 @@ pub long-put-sure : (name : List ℕ) (own : Option ℕ) (records : List Record)
     IsSure new (after_begin records name)
 long-put-sure name own records old new end A long K =
     elim (cut-put-sure name own records old new end A (inr long) K) [
-      | inl (short, r) ↦ absurd (let e : 14 ≡ 16 = sym short ∙ long in omega (arith, e))
+      | inl (short, r) ↦ absurd (omega (arith, sym short ∙ long))
       | inr sure ↦ sure
     ]
 
@@ -269,50 +244,45 @@ long-put-sure name own records old new end A long K =
 pub failed-repair-sure : (records : List Record) (old new : Seen) (end : Ending) →
     AnswersAlone RepairJob old new end → (end.status ≡ 4) ⊎ (end.status ≡ 13) → IsKnown old records →
     IsSure new records
-failed-repair-sure records old new end A failed K =
-    sure-left records K.opened.area records old new K (alone-over RepairJob records old new end K tt A
-    (inr failed))
-    (has failed)
-  where
-    has : (end.status ≡ 4) ⊎ (end.status ≡ 13) → DiskHas K.opened.area records new
-    has (inl lost) = (let P = repair-loses old new end A lost in
-        known-both old records P.records K P.opened (λ a rs. DiskHas a rs new) P.disk)
-    has (inr store) = (let P = repair-fails old new end A store in
-        known-both old records P.records K P.opened (λ a rs. DiskHas a rs new) P.disk)
+failed-repair-sure records old new end A failed K = sure-left records K.opened.area records old new K
+    (alone-over RepairJob records old new end K tt A (inr failed)) (elim failed [
+      | inl lost ↦ (let P = repair-loses old new end A lost in
+          known-both old records P.records K P.opened (λ a rs. DiskHas a rs new) P.disk)
+      | inr store ↦ (let P = repair-fails old new end A store in
+          known-both old records P.records K P.opened (λ a rs. DiskHas a rs new) P.disk)
+    ])
+
+firm-sure : (s : Setup) (new : Seen) (bytes : List ℕ) (area : Area) (rs : List Record) →
+    new.disk ≡ Some (firm bytes) → IsGood s bytes area rs → s.n ≤ length new.providers → IsSure new rs
+firm-sure s new bytes area rs told G enough = record {
+  known = known-good s new (firm bytes) area rs told
+      (subst (λ b. IsGood s b area rs) (sym (reads-firm bytes)) G) enough;
+  images = subst (λ d. EachImage d (λ image. StandsActive image area rs)) (sym told)
+      (λ image is. subst (λ b. StandsActive b area rs) (sym (image-firm bytes image is)) G.stands);
+}
 
 -- a disk that was synced, over known records
 synced-sure : (records : List Record) (old new : Seen) → IsKnown old records →
     new.disk ≡ option_map synced old.disk → length new.providers ≡ length old.providers → IsSure new records
-synced-sure records old new K after same =
-    (let c = is_some-at old.disk K.tells in
-    let told : new.disk ≡ Some (firm (reads c.0)) = after ∙ ap (option_map synced) c.1 in
+synced-sure records old new K after same = (let c = is_some-at old.disk K.tells in
     let R = K.opened.read in
     let area = K.opened.area in
     let looked : (9 < length (reads c.0)) × StandsActive (journal_read c.0) area records =
     subst (λ d. IfSome d (λ cells. (9 < length (reads cells)) × StandsActive (journal_read cells) area
     records)) c.1 R.reads_are in
-    let stands : StandsActive (reads c.0) area records =
-    active-front largest_journal (reads c.0) area records looked.1 in
-    record {
-      known = known-good (setup_in_effect records) new (firm (reads c.0)) area records told
-          (record {
-            some = R.some;
-            accepted = R.accepted;
-            room = R.room;
-            setup = refl;
-            stands = subst (λ bytes. StandsActive bytes area records) (sym (reads-firm (reads c.0))) stands;
-          })
-          (let e = K.opened.enough in omega (arith, e, same));
-      images = subst (λ d. EachImage d (λ image. StandsActive image area records)) (sym told)
-          (λ image is. subst (λ bytes. StandsActive bytes area records)
-          (sym (image-firm (reads c.0) image is)) stands);
-    })
+    firm-sure (setup_in_effect records) new (reads c.0) area records (after ∙ ap (option_map synced) c.1)
+    (record {
+      some = R.some;
+      accepted = R.accepted;
+      room = R.room;
+      setup = refl;
+      stands = active-front largest_journal (reads c.0) area records looked.1;
+    }) (let e = K.opened.enough in omega (arith, e, same)))
 
 -- after a done list the store is sure, with the same records
 pub list-sure : (records : List Record) (old new : Seen) (end : Ending) → AnswersList old new end →
     IsDone end → IsKnown old records → IsSure new records
-list-sure records old new end A done K =
-    (let P = list-done old new end A done in
+list-sure records old new end A done K = (let P = list-done old new end A done in
     synced-sure records old new K P.disk (ap (λ ps. length ps) P.providers))
 
 -- after a scrub that came to its end the store is sure, with the same records
@@ -340,29 +310,17 @@ key-master text key F = (let d = decode_of-ok F.digits key F.spelled in
 
 init-good : (s : Setup) (area : Area) (bytes : List ℕ) → StandsActive bytes area (SetUp s ∷ []) →
     IsGood s bytes area (SetUp s ∷ [])
-init-good s areas.A bytes stands = record {
+init-good s area bytes stands = record {
   some = λ e. cc;
   accepted = (refl, tt);
-  room = omega arith;
+  room = in_area area;
   setup = refl;
   stands = stands;
 }
-init-good s areas.B bytes stands = record {
-  some = λ e. cc;
-  accepted = (refl, tt);
-  room = omega arith;
-  setup = refl;
-  stands = stands;
-}
-
-firm-sure : (s : Setup) (new : Seen) (bytes : List ℕ) (area : Area) (rs : List Record) →
-    new.disk ≡ Some (firm bytes) → IsGood s bytes area rs → s.n ≤ length new.providers → IsSure new rs
-firm-sure s new bytes area rs told G enough = record {
-  known = known-good s new (firm bytes) area rs told
-      (subst (λ b. IsGood s b area rs) (sym (reads-firm bytes)) G) enough;
-  images = subst (λ d. EachImage d (λ image. StandsActive image area rs)) (sym told)
-      (λ image is. subst (λ b. StandsActive b area rs) (sym (image-firm bytes image is)) G.stands);
-}
+  where
+    in_area : (area : Area) → end_in area (SetUp s ∷ []) ≤ largest_journal
+    in_area areas.A = omega arith
+    in_area areas.B = omega arith
 
 set_up-at : (s : Setup) (a b : Option Cells) → is_some a ≡ true → Goes (IsSetUpOn s) a b →
     IsTrue (is_in_grammar (SetUp s)) →
@@ -383,15 +341,17 @@ pub init-sure : (numbers : Numbers) (key : List ℕ) (old new : Seen) (end : End
     IsSure new (SetUp (setup_with numbers key) ∷ [])
 init-sure numbers key old new end A done tells (bytes, source, form) =
     (let I = init-done numbers old new end A done in
-    let same : I.key ≡ key = IsKeyForm-once bytes I.key key
+    let same = IsKeyForm-once bytes I.key key
     (form-all old.source new.source bytes I.bytes I.key source I.read I.form) form in
     let set_up = set_up-at (setup_with numbers key) old.disk new.disk tells
-    (subst (λ k. Goes (IsSetUpOn (setup_with numbers k)) old.disk new.disk) same I.disk)
-    (let both = and_from (is_setup (setup_with numbers key)) (is_master key) I.good
-    (key-master bytes key form) in grind (arith, both)) in
+    (rw same at I.disk)
+    (grind (
+      arith,
+      and_from (is_setup (setup_with numbers key)) (is_master key) I.good (key-master bytes key form),
+    )) in
     firm-sure (setup_with numbers key) new set_up.1 set_up.0 (SetUp (setup_with numbers key) ∷ []) set_up.2
     set_up.3
-    (subst (λ ps. numbers.n ≤ length ps) (sym I.providers) I.enough))
+    (rw (← I.providers) at I.enough))
 
 -- ---- whatever comes of a command
 
@@ -415,46 +375,36 @@ pack-left records how old new opened none left = (pack-good records old new open
 
 pack-comes : (records : List Record) (old new : Seen) (end : Ending) → IsKnown old records →
     AnswersPack old new end → Comes records old new end
-pack-comes records old new end K = pack-cases (λ E. inl E)
-    (λ other how opened none left by. inr (subst (λ rs. Left rs old new)
-    (known-once old records other K opened.read) (pack-left other how old new opened none left)))
+pack-comes records old new end K = pack-cases (λ E. inl E) (λ other how opened none left by. inr
+    (rw (known-once old records other K opened.read) at (pack-left other how old new opened none left)))
 
 -- after a done pack the store is sure, with the packed records
 pub pack-sure : (records : List Record) (old new : Seen) (end : Ending) → AnswersPack old new end →
     IsDone end → IsKnown old records → IsSure new (packed records)
-pack-sure records old new end A done K =
-    (let P = pack-done old new end A done in
+pack-sure records old new end A done K = (let P = pack-done old new end A done in
     sure-left records (other_area K.opened.area) (packed records) old new K
     (comes-over (inl done) (pack-comes records old new end K A))
     (known-both old records P.records K P.opened (λ a rs. DiskHas (other_area a) (packed rs) new) P.disk))
 
 -- a pack that went on to its end put records in the place of others whose table is alike
 pack-alike-of : (records : List Record) (old new : Seen) (end : Ending) → IsKnown old records →
-    AnswersPack old new end →
-    IsEarly old new end ⊎ AreAlike (packed records) records
+    AnswersPack old new end → IsEarly old new end ⊎ AreAlike (packed records) records
 pack-alike-of records old new end K = pack-cases (λ E. inl E)
-    (λ other how opened none left by. inr (subst (λ rs. AreAlike (packed rs) rs)
-    (known-once old records other K opened.read) (pack-alike opened.area other opened.read.accepted none).1))
+    (λ other how opened none left by. inr (rw (known-once old records other K opened.read) at
+    (pack-alike opened.area other opened.read.accepted none).1))
 
 command-comes : (command : Command) (records : List Record) (old new : Seen) (end : Ending) →
     IsKnown old records → Answers command old new end → opens_store command ≡ true →
     IsSure new records ⊎ Comes records old new end
+command-comes (RowOf n l b seen) records old new end K A opens = absurd (false≢true opens)
+command-comes (InitWith numbers) records old new end K A opens = absurd (false≢true opens)
 command-comes (PutUnder name) records old new end K A opens = inr (put-comes name records old new end K A)
 command-comes (PutAt name profile) records old new end K A opens =
     inr (put-comes name records old new end K A)
-command-comes (GetOf name) records old new end K A opens =
-    inr (alone-comes (GetJob name) records old new end K tt A.0)
-command-comes (DropOf name) records old new end K A opens =
-    inr (alone-comes (DropJob name) records old new end K tt A.0)
 command-comes ListAll records old new end K A opens = list-comes records old new end K A.0
-command-comes AuditAll records old new end K A opens = inr (alone-comes AuditJob records old new end K tt A.0)
-command-comes RepairAll records old new end K A opens =
-    inr (alone-comes RepairJob records old new end K tt A.0)
-command-comes UpgradeJournal records old new end K A opens =
-    inr (alone-comes UpgradeJob records old new end K tt A.0)
 command-comes ScrubAll records old new end K A opens = scrub-comes records old new end K A.0
 command-comes PackJournal records old new end K A opens = inr (pack-comes records old new end K A.0)
-command-comes command records old new end K A opens = absurd (false≢true opens)
+command-comes command records old new end K A opens = inr (alone-comes _ records old new end K tt A.0)
 
 -- a command is a pack
 abbrev is_pack : Command → Bool
@@ -477,9 +427,8 @@ command-alike command records old new end K A = inr (no-pack command refl)
 
 -- what is told of each image: it is good, and stands for the records or for these with some of the job's
 abbrev Told : Command → List Record → Seen → Seen → List ℕ → Type 0
-Told command records old new image =
-    (area : Area) × (rs : List Record) × IsGood (setup_in_effect records) image area rs
-    × IsThen command records old new rs
+Told command records old new image = (area : Area) × (rs : List Record) × IsGood (setup_in_effect records)
+    image area rs × IsThen command records old new rs
 
 image-told : (command : Command) (records : List Record) (old new : Seen) (image : List ℕ)
     (area : Area) (rs : List Record) → IsGood (setup_in_effect records) image area rs →
@@ -510,11 +459,7 @@ image-told command records old new image area rs G alike (inr (inr (is, stands))
       area,
       rs,
       G,
-      inr (inr (record {
-        of_command = is;
-        after_is = same;
-        alike = subst (λ l. AreAlike l records) (sym same) (alike is);
-      })),
+      inr (inr (record { of_command = is; after_is = same; alike = rw (← same) at (alike is) })),
     ))
 
 -- the next command finds an image of the disk
@@ -523,7 +468,7 @@ pub next-image : (new next : Seen) → is_some new.disk ≡ true → Follows new
     ((P : List ℕ → Type 0) → EachImage new.disk P → P (reads cells))
 next-image new next tells N = elim N.disk [
   | inl same ↦ (let c = is_some-at new.disk tells in
-      (c.0, same ∙ c.1, λ P h. subst (λ d. EachImage d P) c.1 h (reads c.0) (IsImage-reads c.0)))
+      (c.0, same ∙ c.1, λ P h. (rw c.1 at h) (reads c.0) (IsImage-reads c.0)))
   | inr stopped ↦ stopped-at new.disk next.disk tells stopped
 ]
   where
@@ -532,7 +477,7 @@ next-image new next tells N = elim N.disk [
     stopped-at None b tells g = absurd (false≢true tells)
     stopped-at (Some a) None tells g = absurd g
     stopped-at (Some a) (Some b) tells (image, of, is) =
-        (firm image, ap Some is, λ P h. subst P (sym (reads-firm image)) (h image of))
+        (firm image, ap Some is, λ P h. (rw (← (reads-firm image)) at (h image of)))
 
 -- after any command the next one finds the store known, with some of the records of its job, or packed
 pub known-always : (command : Command) (records : List Record) (old new next : Seen) (end : Ending) →
@@ -546,12 +491,12 @@ known-always command records old new next end A opens S N =
         | inl E ↦ by-early E
         | inr alike ↦ (let c = next-image new next (good.1 ∙ S.known.tells) N in
             let g = c.2 (MayBeGood (setup_in_effect records)) good.0.0 in
-            let stands = c.2 _ (known-images command records old new end A opens S.known
-            (each_image-mono old.disk _ _ (λ image s. (S.known.opened.area, s)) S.images)) in
-            let told = image-told command records old new (reads c.0) g.0 g.1 g.2 alike stands in (
+            let told = image-told command records old new (reads c.0) g.0 g.1 g.2 alike
+            (c.2 _ (known-images command records old new end A opens S.known
+            (each_image-mono old.disk _ _ (λ image s. (S.known.opened.area, s)) S.images))) in (
               told.1,
               known-good (setup_in_effect records) next c.0 told.0 told.1 c.1 told.2
-                  (let e = good.0.1 in let h = N.handed in omega (arith, e, h)),
+                  (omega (arith, good.0.1, N.handed)),
               told.3,
             ))
       ]

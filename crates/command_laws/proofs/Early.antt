@@ -1,9 +1,9 @@
 -- A command was refused and touched nothing, or came to an end of its own: each kind of answer in these cases.
-use Rattle.command_laws.proofs.Words.{◌≡◌, ℕ, ◌≤◌, ◌==◌, ◌⊎◌, Bool, true, false, List, [], length, Option, None, Some, refl, ap, sym, ◌∙◌, inl, inr, false≢true, IfSome, largest_file, Rose, provider_at, Provider, Record, Area, Numbers, PutJob, Kind, Answer, Refusal, Command, Seen, Ending, IsRefused, IsOpened, IsSynced, ReadsFront, Unstarted, setup_in_effect, refusal_over, pack_refusal_over, is_unknown, setup_with, status_of, text_of, scrub_text, pack_text, MayHaveEnd, put_stripe, StopsReading, PartLeft, EndsByAnswer, LeftAlone, ScrubbedAlone, PackedAlone, AnswersInit, InitsDisk, AnswersJob, AnswersPut, AnswersAlone, AnswersList, AnswersScrub, AnswersPack, ListsFiles, IsDone, IsKnown, EndsInOrder, RunsKind, profile_named, is_ending}
+use Rattle.command_laws.proofs.Words.{Some, ◌≡◌, ℕ, ◌≤◌, ◌==◌, ◌⊎◌, Bool, true, false, List, [], length, Option, None, refl, ap, sym, ◌∙◌, inl, inr, false≢true, IfSome, largest_file, Rose, provider_at, Provider, Record, Area, Numbers, PutJob, Kind, Answer, Refusal, Command, Seen, Ending, IsRefused, IsOpened, IsSynced, ReadsFront, Unstarted, setup_in_effect, refusal_over, pack_refusal_over, is_unknown, setup_with, status_of, text_of, scrub_text, pack_text, MayHaveEnd, put_stripe, StopsReading, PartLeft, EndsByAnswer, LeftAlone, ScrubbedAlone, PackedAlone, AnswersInit, InitsDisk, AnswersJob, AnswersPut, AnswersAlone, AnswersList, AnswersScrub, AnswersPack, ListsFiles, IsDone, IsKnown, EndsInOrder, RunsKind, profile_named, is_ending, Answers, RowOf, InitWith, PutUnder, PutAt, ListAll, ScrubAll, PackJournal}
 use Rattle.std.specs.Prelude.{if◌then◌else◌}
 use Rattle.command_defs.specs.Inits.{FailsToInit, IsInitDone}
 use Rattle.machine_defs.specs.Refusals as refusal
-use Rattle.command_laws.proofs.Known.{alone-known}
+use Rattle.command_laws.proofs.Known.{alone-known, EndStatus, status-ended, status-written}
 
 -- a status with which nothing was done: of no job's end, and of no text
 abbrev pub is_early : ℕ → Bool
@@ -142,8 +142,7 @@ module _ {old new : Seen} {end : Ending} {P : Type 0} (early : IsEarly old new e
   init-cases fails done (AnswersInit.too_few_providers good few same r) = early (early-at 22 0 refl refl r)
   init-cases fails done (AnswersInit.source_fault good enough rose taken r) =
       early (early-at 14 0 refl refl r)
-  init-cases fails done (AnswersInit.bad_key seen good enough read none r) =
-      early (early-at 18 0 refl refl r)
+  init-cases fails done (AnswersInit.bad_key seen good enough read none r) = early (early-at 18 0 refl refl r)
   init-cases fails done (AnswersInit.no_memory taken r) = early (early-at 70 0 refl refl r)
   init-cases fails done (AnswersInit.keyed seen key good enough read form (InitsDisk.disk_fault rose F)) =
       fails key 12 (inl refl) F
@@ -154,6 +153,34 @@ module _ {old new : Seen} {end : Ending} {P : Type 0} (early : IsEarly old new e
   init-cases fails done (AnswersInit.keyed seen key good enough read form (InitsDisk.already is r)) =
       early (early-at 10 0 refl refl r)
   init-cases fails done (AnswersInit.keyed seen key good enough read form (InitsDisk.ready R)) = done key R
+
+  -- a command was refused, ended with a status of a job or with its source, or is one of a row
+  pub command-cases : (EndStatus end.status → P) → ((end.status ≡ 14) ⊎ (end.status ≡ 16) → P) →
+      ((n l b : ℕ) (seen : List (Option ℕ)) → Answers (RowOf n l b seen) old new end → P) →
+      (command : Command) → Answers command old new end → P
+  command-cases late stopped row (RowOf n l b seen) A = row n l b seen A
+  command-cases late stopped row (InitWith numbers) A = init-cases (λ key status two F. elim two [
+    | inl e ↦ late (EndStatus.by_disk (F.status_is ∙ e))
+    | inr e ↦ late (EndStatus.by_memory (F.status_is ∙ e))
+  ]) (λ key R. late (status-written _ old new end R.written)) A
+  command-cases late stopped row (PutUnder name) A = put-cases {own = None}
+      (λ records bytes opened known none stops left. stopped
+      (elim stops.cause [ inl c ↦ inl c.0 | inr c ↦ inr c.0 ]))
+      (λ records bytes opened known read few how none left whole by.
+      late (status-ended _ how old new end by)) A
+  command-cases late stopped row (PutAt name profile) A = put-cases {own = Some profile}
+      (λ records bytes opened known none stops left. stopped
+      (elim stops.cause [ inl c ↦ inl c.0 | inr c ↦ inr c.0 ]))
+      (λ records bytes opened known read few how none left whole by.
+      late (status-ended _ how old new end by)) A
+  command-cases late stopped row ListAll A =
+      list-cases (λ records opened L. late (status-written _ old new end L.written)) A.0
+  command-cases late stopped row ScrubAll A =
+      scrub-cases (λ records how opened synced left by. late (status-ended _ how old new end by)) A.0
+  command-cases late stopped row PackJournal A =
+      pack-cases (λ records how opened none left by. late (status-ended _ how old new end by)) A.0
+  command-cases late stopped row command A =
+      alone-cases (λ records opened how none left by. late (status-ended _ how old new end by)) A.0
 
 -- ---- in order, and over a known store
 
@@ -189,6 +216,6 @@ alone-well {kind} {old} {new} {end} {P} records K begins disk memory late A =
     ]
   where
     by-job : AnswersJob kind None K.opened.area records old new end → P
-    by-job (AnswersJob.refused why is synced r) = absurd (let e : None ≡ Some why = sym begins ∙ is in cc)
+    by-job (AnswersJob.refused why is synced r) = absurd (cc (sym begins ∙ is))
     by-job (AnswersJob.no_memory synced r) = memory r
     by-job (AnswersJob.ended how none runs left by) = late how left by

@@ -1,6 +1,6 @@
 -- An empty text makes no call of the sink, so its fault ends neither a list without a file nor a get of an
 -- empty file.
-use Rattle.command_laws.proofs.Words.{◌≡◌, ◌≢◌, ℕ, List, [], ◌∷◌, take, Some, refl, ap, sym, ◌∙◌, inl, inr, arith, None, Record, Area, File, file_of, files_of, GetJob, Answer, WritesLine, Seen, Ending, sinking, setup_in_effect, list_lines, text_of, GetLeaves, AnswersJob, EndsByAnswer, LeftAlone, AnswersAlone, AnswersList, IsKnown, same_value}
+use Rattle.command_laws.proofs.Words.{◌≡◌, ◌≢◌, ℕ, List, [], take, Some, refl, ap, sym, ◌∙◌, inl, inr, arith, None, Record, Area, File, file_of, files_of, GetJob, Answer, WritesLine, Seen, Ending, sinking, setup_in_effect, list_lines, text_of, GetLeaves, AnswersJob, EndsByAnswer, LeftAlone, AnswersAlone, AnswersList, IsKnown, same_value}
 use Rattle.machine_defs.specs.Answers as answer
 use Rattle.command_laws.proofs.Known.{known-once, alone-known, unstarted-known, refused-not}
 use Rattle.command_laws.proofs.GetEnds.{ran_left}
@@ -10,8 +10,7 @@ take-zero : (n : ℕ) (l : List ℕ) → n ≡ 0 → take n l ≡ []
 take-zero n l zero = ap (λ k. take k l) zero ∙ none l
   where
     none : (l : List ℕ) → take 0 l ≡ []
-    none [] = refl
-    none (x ∷ l) = refl
+    none _ = refl
 
 not-fifteen : (status n : ℕ) → status ≡ n → n ≢ 15 → status ≡ 15 → ⊥
 not-fifteen status n is other sink = other (sym is ∙ sink)
@@ -50,9 +49,8 @@ module _ (name : List ℕ) (records : List Record) (file : File) (old new : Seen
       EndsByAnswer (text_of (setup_in_effect records).tolerance (GetJob name) how) how old new end →
       end.status ≡ 15 → ⊥
   by-answer (answer.Got bytes) left L by sink =
-      (let same : L.file ≡ file = same_value (file_of records name) L.file file L.in_effect in_effect in
-      let zero : L.file.size ≡ 0 = ap (λ (f : File). f.size) same ∙ none in
-      let empty : bytes ≡ [] = L.gives.1.cut ∙ take-zero L.file.size _ zero in
+      (let same = same_value (file_of records name) L.file file L.in_effect in_effect in
+      let empty = L.gives.1.cut ∙ take-zero L.file.size _ (ap (λ (f : File). f.size) same ∙ none) in
       written-empty bytes old new end by.written empty sink)
   by-answer (answer.Lost stripe row) left L by sink =
       not-fifteen end.status 4 by.status_is (λ e. omega (arith, e)) sink

@@ -50,12 +50,9 @@ has-same name bytes records after spoilt old new H file setup same = record {
   in_effect = file ∙ H.in_effect;
   are_bytes = H.are_bytes;
   size = H.size;
-  right = λ j below clean. (let l : j < (setup_in_effect records).n =
-      subst (λ (s : Setup). j < s.n) setup below in
-      subst (λ (s : Setup). is_wrong_or_untold (object_of (profiled s H.file.profile) H.file.id) bytes j
-      (provider_at new.providers j).held ≡ false) (sym setup)
-      (wrong-same (object_in_effect records H.file) bytes j (provider_at old.providers j).held
-      (provider_at new.providers j).held (same j l) (H.right j l clean)));
+  right = λ j below clean. (let l = rw setup at below in
+      (rw (← setup) at (wrong-same (object_in_effect records H.file) bytes j (provider_at old.providers j).held
+      (provider_at new.providers j).held (same j l) (H.right j l clean))));
 }
 
 -- ---- the records after a command
@@ -82,13 +79,12 @@ grown-by : (P : List Record → Type 0) (records after : List Record) (own : Lis
     after ≡ reverse (take count own) ++ records → (known : List Record) → own ≡ known →
     P (reverse (take count known) ++ records) → P after
 grown-by P records after own count is known own_is p =
-    subst P (sym (is ∙ ap (λ l. reverse (take count l) ++ records) own_is)) p
+    rw (← (is ∙ ap (λ l. reverse (take count l) ++ records) own_is)) at p
 
 get-grown : (name : List ℕ) (records after : List Record) (got : List ℕ) (old new : Seen) →
     HasGrown (GetOf got) records old new after → Stays name records after
-get-grown name records after got old new G = grown-by
-    (Stays name records) records after G.own G.count G.after_is []
-    (subst (λ kd. AreAppended records kd None G.own) G.of_command G.are_own)
+get-grown name records after got old new G = grown-by (Stays name records) records after G.own G.count
+    G.after_is [] (subst (λ kd. AreAppended records kd None G.own) G.of_command G.are_own)
     (subst (λ l. Stays name records (reverse l ++ records)) (sym (take-none G.count)) (refl, refl))
 
 audit-grown : (name : List ℕ) (records after : List Record) (old new : Seen) →
@@ -108,10 +104,8 @@ put-stays name other own records size differ =
     stays : (f : Option File) → cond (is_start_of name
         (started_as (PutStart (next_id records) other ∷ records) (next_id records))) f
         (file_of records name) ≡ file_of records name
-    stays f = cond_false (is_start_of name
-        (started_as (PutStart (next_id records) other ∷ records) (next_id records))) f
-        (file_of records name)
-        (ap (is_start_of name)
+    stays f = cond_false (is_start_of name (started_as (PutStart (next_id records) other ∷ records)
+        (next_id records))) f (file_of records name) (ap (is_start_of name)
         (cond_true (next_id records == next_id records) (Some other) (started_as records (next_id records))
         (eq-eqb (next_id records) (next_id records) refl)) ∙ other_name other name differ)
 
@@ -120,30 +114,25 @@ put-grown-by : (name other bytes : List ℕ) (own : Option ℕ) (records after :
     all ≡ put_records records other (length bytes) own → Stays name records after
 put-grown-by name other bytes own records after differ all count is all_is =
     grown-by (Stays name records) records after all count is _ all_is
-    (first-two (Stays name records) (PutStart (next_id records) other)
-    (put_done records (length bytes) own) records (refl, refl) (refl, refl)
-    (put-stays name other own records (length bytes) differ) count)
+    (first-two (Stays name records) (PutStart (next_id records) other) (put_done records (length bytes) own)
+    records (refl, refl) (refl, refl) (put-stays name other own records (length bytes) differ) count)
 
 put-grown : (name other : List ℕ) (own : Option ℕ) (records after : List Record) (old new : Seen) →
     other ≢ name → HasGrown (put_of other own) records old new after → Stays name records after
-put-grown name other None records after old new differ G =
-    put-grown-by name other G.of_command.0 None records after differ G.own G.count G.after_is
-    (subst (λ kd. AreAppended records kd None G.own) G.of_command.4 G.are_own)
-put-grown name other (Some p) records after old new differ G =
-    put-grown-by name other G.of_command.0 (Some p) records after differ G.own G.count G.after_is
-    (subst (λ kd. AreAppended records kd (Some p) G.own) G.of_command.4 G.are_own)
+put-grown name other None records after old new differ G = put-grown-by name other G.of_command.0 None records
+    after differ G.own G.count G.after_is (rw G.of_command.4 at G.are_own)
+put-grown name other (Some p) records after old new differ G = put-grown-by name other G.of_command.0 (Some p)
+    records after differ G.own G.count G.after_is (rw G.of_command.4 at G.are_own)
 
 upgrade-grown : (name : List ℕ) (records after : List Record) (old new : Seen) →
     HasGrown UpgradeJournal records old new after → Stays name records after
-upgrade-grown name records after old new G =
-    grown-by (Stays name records) records after G.own G.count G.after_is _
-    (subst (λ kd. AreAppended records kd None G.own) G.of_command G.are_own)
+upgrade-grown name records after old new G = grown-by (Stays name records) records after G.own G.count
+    G.after_is _ (subst (λ kd. AreAppended records kd None G.own) G.of_command G.are_own)
     (first-one (Stays name records) Version records (refl, refl) (refl, refl) G.count)
 
 drop-grown : (name other : List ℕ) (records after : List Record) (old new : Seen) → other ≢ name →
     HasGrown (DropOf other) records old new after → Stays name records after
-drop-grown name other records after old new differ G =
-    (let own = subst (λ kd. AreAppended records kd None G.own) G.of_command G.are_own in
+drop-grown name other records after old new differ G = (let own = rw G.of_command at G.are_own in
     grown-by (Stays name records) records after G.own G.count G.after_is _ own
     (first-one (Stays name records) (Drop other) records (refl, refl)
     (cond_false _ None (file_of records name) (other_name other name differ), refl) G.count))
@@ -162,10 +151,9 @@ then-by command name records after old new grown (inr (inr P)) =
 reads-by : (command : Command) (name bytes : List ℕ) (records after : List Record) (spoilt : ℕ → Bool)
     (old new : Seen) → SameHolds old new → HasRightFile old records name bytes spoilt →
     Stays name records after → HasRightFile new after name bytes spoilt
-reads-by command name bytes records after spoilt old new holds H S =
-    has-same name bytes records after spoilt old new H S.0 S.1
-    (λ j below. same-told H.file.id (provider_at old.providers j).held (provider_at new.providers j).held
-    (holds j))
+reads-by command name bytes records after spoilt old new holds H S = has-same name bytes records after spoilt
+    old new H S.0 S.1 (λ j below. same-told H.file.id (provider_at old.providers j).held
+    (provider_at new.providers j).held (holds j))
 
 -- a file that is right stays so over a get, a list, an audit, an upgrade and a pack
 pub reads-have : (command : Command) (name bytes : List ℕ) (records after : List Record) (spoilt : ℕ → Bool)
@@ -193,10 +181,9 @@ reads-have command name bytes records after spoilt old new end A keeps H T = abs
 pub refused-has : (status at : ℕ) (name bytes : List ℕ) (records : List Record) (spoilt : ℕ → Bool)
     (old new : Seen) (end : Ending) → IsRefused status at old new end →
     HasRightFile old records name bytes spoilt → HasRightFile new records name bytes spoilt
-refused-has status at name bytes records spoilt old new end r H =
-    has-same name bytes records records spoilt old new H refl refl
-    (λ j below. same-told H.file.id (provider_at old.providers j).held (provider_at new.providers j).held
-    (ap (λ ps. (provider_at ps j).held) r.providers))
+refused-has status at name bytes records spoilt old new end r H = has-same name bytes records records spoilt
+    old new H refl refl (λ j below. same-told H.file.id (provider_at old.providers j).held
+    (provider_at new.providers j).held (ap (λ ps. (provider_at ps j).held) r.providers))
 
 -- ---- a put and a drop of another name
 
@@ -225,7 +212,7 @@ module _ (name other : List ℕ) (records : List Record) (file : File) (sound : 
     (in_effect : file_of records name ≡ Some file) (differ : other ≢ name) where
   -- the file has none of the numbers that are stored or taken away
   not-next : file.id ≢ next_id records
-  not-next e = (let below = (sound.file name file in_effect).0 in omega (arith, below, e))
+  not-next e = omega (arith, (sound.file name file in_effect).0, e)
 
   not-older : IfSome (file_of records other) (λ f. file.id ≢ f.id)
   not-older = by_file (file_of records other) refl
@@ -293,8 +280,7 @@ module _ (name other : List ℕ) (records : List Record) (file : File) (sound : 
     where
       dropped : (f : File) → file_of records other ≡ Some f → (rose : Type 0) (a b : Held) →
           DroppedFrom f.id rose a b → SameOf file.id a b
-      dropped f is rose a b D stripe =
-          D.others file.id stripe (subst (λ o. IfSome o (λ g. file.id ≢ g.id)) is not-older)
+      dropped f is rose a b D stripe = D.others file.id stripe (rw is at not-older)
 
       by_answer : (h : Answer) →
           DropLeaves (ran_left records (DropJob other) how old new end.heard left) other h →
@@ -377,8 +363,7 @@ pub columns-right : (s : Setup) (file : File) (bytes : List ℕ) (j : ℕ) (told
 columns-right s file bytes j None size tells h = absurd (false≢true tells)
 columns-right s file bytes j (Some held) size tells h =
     each-not-wrong (object_of (profiled s file.profile) file.id) bytes j (held file.id)
-    (λ t l. ap (is_wrong_block (object_of (profiled s file.profile) file.id) bytes j t)
-    (h t (subst (λ n. t < stripes_of (profiled s file.profile) n) size l))
+    (λ t l. ap (is_wrong_block (object_of (profiled s file.profile) file.id) bytes j t) (h t (rw size at l))
     ∙ column-right (object_of (profiled s file.profile) file.id) bytes j t)
 
 -- if `b and not c` is off, and c is off, b is off
@@ -389,10 +374,9 @@ and-off false c h off = refl
 
 -- a provider that is not flagged holds an object as it did, and each tells on that told
 abbrev GoesFlagged : ℕ → List Record → Due → Seen → Seen → ℕ → Type 0
-GoesFlagged id records due old new j =
-    (is_flagged (setup_in_effect records).tolerance due.counts j ≡ false →
-    SameAt id (provider_at old.providers j).held (provider_at new.providers j).held)
-    × (is_some (provider_at old.providers j).held ≡ true → is_some (provider_at new.providers j).held ≡ true)
+GoesFlagged id records due old new j = (is_flagged (setup_in_effect records).tolerance due.counts j ≡ false →
+    SameAt id (provider_at old.providers j).held (provider_at new.providers j).held) ×
+    (is_some (provider_at old.providers j).held ≡ true → is_some (provider_at new.providers j).held ≡ true)
 
 repaired-goes : (id : ℕ) (old new : Seen) (end : Ending) (P : IsRepaired old new end) (j : ℕ) →
     j < (setup_in_effect P.records).n → GoesFlagged id P.records P.due old new j
@@ -424,29 +408,23 @@ repair-has name bytes records due spoilt old new end A done K is_due H steady fe
     goes : (j : ℕ) → j < (setup_in_effect records).n → GoesFlagged H.file.id records due old new j
     goes j below = (let P = repair-done old new end A done in
         let same = known-once old records P.records K P.opened.read in
-        let due_is : P.due ≡ due = same_value (due_of records) P.due due
+        let due_is = same_value (due_of records) P.due due
         (ap due_of (sym same) ∙ P.is_due) is_due in
-        subst (λ (d : Due). GoesFlagged H.file.id records d old new j) due_is
-        (subst (λ rs. GoesFlagged H.file.id rs P.due old new j) same
+        (rw due_is at (subst (λ rs. GoesFlagged H.file.id rs P.due old new j) same
         (repaired-goes H.file.id old new end P j
-        (subst (λ rs. j < (setup_in_effect rs).n) (sym same) below))))
+        (subst (λ rs. j < (setup_in_effect rs).n) (sym same) below)))))
 
     right : (j : ℕ) → j < (setup_in_effect records).n →
         (spoilt j && not (is_flagged (setup_in_effect records).tolerance due.counts j)) ≡ false →
         is_wrong_or_untold (object_in_effect records H.file) bytes j (provider_at new.providers j).held
         ≡ false
-    right j below clean =
-        (let g = goes j below in
+    right j below clean = (let g = goes j below in
         elim (cases_Bool (is_flagged (setup_in_effect records).tolerance due.counts j)) [
           | inl flagged ↦ columns-right (setup_in_effect records) H.file bytes j
               (provider_at new.providers j).held H.size (g.1 (tells j below flagged))
               (repair-right name bytes records H.file due j old new end A K done is_due H.in_effect H.size
-              (let b = bad-few name bytes records spoilt old new H steady in
-              omega (arith, b, few)) below flagged)
+              (omega (arith, bad-few name bytes records spoilt old new H steady, few)) below flagged)
           | inr free ↦ wrong-same (object_in_effect records H.file) bytes j (provider_at old.providers j).held
-              (provider_at new.providers j).held
-              (g.0 free)
-              (H.right j below (and-off (spoilt j)
-              (is_flagged (setup_in_effect records).tolerance due.counts j)
-              clean free))
+              (provider_at new.providers j).held (g.0 free) (H.right j below
+              (and-off (spoilt j) (is_flagged (setup_in_effect records).tolerance due.counts j) clean free))
         ])

@@ -1,5 +1,5 @@
 -- A file that is in effect and right on most providers, between two commands.
-use Rattle.command_laws.proofs.Words.{◌≡◌, ℕ, ◌+◌, ◌<◌, ◌≤◌, Bool, true, false, List, length, Option, None, Some, refl, ap, sym, subst, ◌∙◌, inl, inr, arith, is_some, nat_lt, nat_le, cases_Bool, cases_lt, false≢true, nat_tests, Object, is_wrong_block, Rose, last_count, Held, Provider, Record, largest_file, Setup, File, file_as, next_id, file_of, profiled, object_of, chosen, AreBytes, Seen, Ending, provider_at, setup_in_effect, object_in_effect, StoredOn, AnswersPut, has_risen, is_bad_with, is_bad_for, bad_seen, IsDone, IsKnown, after_put, IsWholePut, is_wrong_or_untold, HasRightFile, IsUntouched, IsSteady, spoilt_below, count_of-within, column-right, each-not-wrong}
+use Rattle.command_laws.proofs.Words.{◌≡◌, ℕ, ◌+◌, ◌<◌, ◌≤◌, Bool, true, false, List, length, Option, None, Some, refl, ap, sym, subst, ◌∙◌, inl, inr, arith, is_some, nat_lt, nat_le, cases_Bool, cases_lt, false≢true, nat_tests, Object, is_wrong_block, Rose, last_count, Held, Provider, Record, largest_file, File, file_as, next_id, file_of, profiled, object_of, chosen, AreBytes, Seen, Ending, provider_at, setup_in_effect, object_in_effect, StoredOn, AnswersPut, has_risen, is_bad_with, is_bad_for, bad_seen, IsDone, IsKnown, after_put, is_wrong_or_untold, HasRightFile, IsUntouched, IsSteady, spoilt_below, count_of-within, column-right, each-not-wrong}
 use Rattle.std.proofs.Common.{◌||◌}
 use Rattle.device_defs.specs.Told.{Goes}
 use Rattle.command_laws.proofs.Known.{known-once}
@@ -18,6 +18,10 @@ stored-right o bytes older rose j (Some a) (Some b) tells g =
     each-not-wrong o bytes j (b o.id) (λ t l. ap (is_wrong_block o bytes j t) (g.stored t l)
     ∙ column-right o bytes j t)
 
+-- each of n providers that is not spoilt tells what it holds
+abbrev pub DoTell : ℕ → (ℕ → Bool) → Seen → Type 0
+DoTell n spoilt c = (j : ℕ) → j < n → spoilt j ≡ false → is_some (provider_at c.providers j).held ≡ true
+
 -- ---- a put that is done
 
 -- the profile of a put's file
@@ -34,8 +38,7 @@ pub stored-file : (name bytes : List ℕ) (own : Option ℕ) (records : List Rec
     Goes (StoredOn (object_of (profiled (setup_in_effect records) (chosen (setup_in_effect records) own))
     (next_id records)) bytes older (rose j) j)
     (provider_at old.providers j).held (provider_at new.providers j).held) →
-    ((j : ℕ) → j < (setup_in_effect records).n → spoilt j ≡ false →
-    is_some (provider_at old.providers j).held ≡ true) →
+    DoTell (setup_in_effect records).n spoilt old →
     HasRightFile new (after_put records name (length bytes) own) name bytes spoilt
 stored-file name bytes own records spoilt old new in_effect are older rose stored tells = record {
   file = file_as name (next_id records) (length bytes) (its_profile records own);
@@ -43,8 +46,8 @@ stored-file name bytes own records spoilt old new in_effect are older rose store
   are_bytes = are;
   size = refl;
   right = λ j below clean. (let l : j < (setup_in_effect records).n =
-      subst (λ (s : Setup). j < s.n) (put-setup records name (length bytes) own) below in
-      subst (λ (s : Setup). is_wrong_or_untold (object_of (profiled s (its_profile records own))
+      subst (λ s. j < s.n) (put-setup records name (length bytes) own) below in
+      subst (λ s. is_wrong_or_untold (object_of (profiled s (its_profile records own))
       (next_id records)) bytes j
       (provider_at new.providers j).held ≡ false) (sym (put-setup records name (length bytes) own))
       (stored-right (object_of (profiled (setup_in_effect records) (its_profile records own))
@@ -53,31 +56,20 @@ stored-file name bytes own records spoilt old new in_effect are older rose store
       (tells j l clean) (stored j l)));
 }
 
-put-file : (name : List ℕ) (own : Option ℕ) (spoilt : ℕ → Bool) (old new : Seen) (end : Ending)
-    (P : IsWholePut name own old new end) →
-    ((j : ℕ) → j < (setup_in_effect P.records).n → spoilt j ≡ false →
-    is_some (provider_at old.providers j).held ≡ true) →
-    HasRightFile new (after_put P.records name (length P.bytes) own) name P.bytes spoilt
-put-file name own spoilt old new end P tells =
-    stored-file name P.bytes own P.records spoilt old new P.in_effect P.are_bytes (file_of P.records name) _
-    P.stored tells
-
 -- after a done put its file is in effect, and right on each provider that tells
 pub put-has : (name bytes : List ℕ) (own : Option ℕ) (records : List Record) (spoilt : ℕ → Bool)
     (old new : Seen) (end : Ending) → AnswersPut name own old new end → IsDone end → IsKnown old records →
     old.source ≡ Some bytes →
-    ((j : ℕ) → j < (setup_in_effect records).n → spoilt j ≡ false →
-    is_some (provider_at old.providers j).held ≡ true) →
+    DoTell (setup_in_effect records).n spoilt old →
     HasRightFile new (after_put records name (length bytes) own) name bytes spoilt
 put-has name bytes own records spoilt old new end A done K source tells =
     (let P = put-done name own old new end A done in
     let same = known-once old records P.records K P.opened.read in
-    let read = whole-read (largest_file + 1) old.source new.source bytes P.bytes source P.read P.whole in
     subst (λ rs. HasRightFile new (after_put rs name (length bytes) own) name bytes spoilt) same
-    (subst (λ bs. HasRightFile new (after_put P.records name (length bs) own) name bs spoilt) read
-    (put-file name own spoilt old new end P
-    (subst (λ rs. (j : ℕ) → j < (setup_in_effect rs).n → spoilt j ≡ false →
-    is_some (provider_at old.providers j).held ≡ true) (sym same) tells))))
+    (subst (λ bs. HasRightFile new (after_put P.records name (length bs) own) name bs spoilt)
+    (whole-read (largest_file + 1) old.source new.source bytes P.bytes source P.read P.whole)
+    (stored-file name P.bytes own P.records spoilt old new P.in_effect P.are_bytes (file_of P.records name) _
+    P.stored (rw (← same) at tells))))
 
 -- ---- between two commands
 
@@ -100,9 +92,8 @@ calm-risen : (before now : ℕ) → (Rose before now → ⊥) → has_risen befo
 calm-risen before now calm = elim (cases_lt before now) [
   | inl l ↦ absurd (calm (λ below. l))
   | inr m ↦ elim (cases_lt before last_count) [
-    | inl l ↦ (let first = not-less before now m in
-        let second = not-past now last_count (omega (arith, l, m)) in
-        or-false (nat_lt before now) (nat_le last_count now) first second)
+    | inl l ↦ (or-false (nat_lt before now) (nat_le last_count now) (not-less before now m)
+        (not-past now last_count (omega (arith, l, m))))
     | inr past ↦ absurd (calm (λ below. absurd (omega (arith, below, past))))
   ]
 ]
@@ -114,7 +105,7 @@ calm-risen before now calm = elim (cases_lt before now) [
     not-past a b l = grind (arith, nat_tests, l)
 
     or-false : (b c : Bool) → b ≡ false → c ≡ false → (b || c) ≡ false
-    or-false b c e f = (λ i. e i || f i)
+    or-false b c e f = λ i. e i || f i
 
 bad-off : (o : Object) (bytes : List ℕ) (j : ℕ) (p q : Provider) (told : Option Held) →
     is_wrong_or_untold o bytes j told ≡ false → has_risen p.other_faults q.other_faults ≡ false →

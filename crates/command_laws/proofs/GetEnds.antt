@@ -1,5 +1,5 @@
 -- How a get ends over a disk that tells its records.
-use Rattle.command_laws.proofs.Words.{◌≡◌, ℕ, ◌+◌, ◌≤◌, ◌⊎◌, true, cond, not, List, [], length, None, Some, refl, sym, subst, ◌∙◌, inl, inr, arith, Option, is_some, IsShape, Rose, told_then, TakesFront, Record, is_name, Area, File, file_of, Kind, GetJob, Answer, AreBytes, Entry, HoldsForgery, WritesLine, Seen, Ending, sinking, IsOpened, setup_in_effect, object_in_effect, refusal_over, Ran, ran_alone, job_number, text_of, GetLeaves, EndsByAnswer, LeftAlone, AnswersAlone, bad_seen, IsKnown, GivesUnlessMemory, find-files_of, file-spelled, shape-of, get-complete, get-right, get-forged, opened_state, state-over}
+use Rattle.command_laws.proofs.Words.{◌≡◌, ℕ, ◌+◌, ◌≤◌, ◌⊎◌, cond, not, List, [], length, None, Some, refl, sym, subst, ◌∙◌, inl, inr, arith, Option, is_some, IsShape, Rose, told_then, TakesFront, Record, Area, File, file_of, Kind, GetJob, Answer, AreBytes, Entry, HoldsForgery, Seen, Ending, IsOpened, setup_in_effect, object_in_effect, refusal_over, Ran, ran_alone, job_number, text_of, GetLeaves, EndsByAnswer, LeftAlone, AnswersAlone, bad_seen, IsKnown, GivesUnlessMemory, find-files_of, file-spelled, shape-of, get-complete, get-right, get-forged, opened_state, state-over}
 use Rattle.machine_defs.specs.Answers as answer
 use Rattle.machine_defs.specs.Refusals as refusal
 use Rattle.command_laws.proofs.Known.{none-written, written-well, written-zero, written-front, alone-known}
@@ -8,8 +8,7 @@ use Rattle.command_laws.proofs.Early.{IsEarly, early-at, early-not, alone-well, 
 -- the setup of records that are read is of a shape
 pub shape-at : (old : Seen) (records : List Record) → IsOpened old records →
     IsShape (setup_in_effect records).n (setup_in_effect records).l (setup_in_effect records).b
-shape-at old records R =
-    (let w = opened_state R.area records 0 old.providers in
+shape-at old records R = (let w = opened_state R.area records 0 old.providers in
     shape-of w w [] (state-over records 0 old R).at_rest)
 
 -- what was left, as it is seen
@@ -25,11 +24,9 @@ module _ (name bytes : List ℕ) (records : List Record) (file : File) (old new 
   shape = shape-at old records K.opened
 
   begins : refusal_over K.opened.area records (GetJob name) None ≡ None
-  begins = (let named : is_name name ≡ true =
-      (file-spelled records name file K.opened.read.in_grammar in_effect).0 in
-      let found = find-files_of records name ∙ in_effect in
-      (λ i. cond (not (named i)) (Some refusal.BadName)
-      (cond (not (is_some (found i))) (Some refusal.NoSuchName) None)))
+  begins = (λ i. cond (not ((file-spelled records name file K.opened.read.in_grammar in_effect).0 i))
+      (Some refusal.BadName)
+      (cond (not (is_some ((find-files_of records name ∙ in_effect) i))) (Some refusal.NoSuchName) None))
 
   -- what a get ends with, by its answer
   abbrev EndsWith : Answer → Type 0
@@ -53,14 +50,13 @@ module _ (name bytes : List ℕ) (records : List Record) (file : File) (old new 
       ((got : List ℕ) → how ≡ answer.Got got → (got ≡ bytes) ⊎ Else) → GetLeaves x name how → EndsWith how →
       Right ⊎ Else
   right-by Else x (answer.Got got) right L by = elim (right got refl) [
-    | inl same ↦ (let told : WritesLine bytes end.status (sinking old new) =
-        subst (λ t. WritesLine t end.status (sinking old new)) same by.written in
+    | inl same ↦ (let told = rw same at by.written in
         inl (written-front bytes old new end told, written-zero bytes old new end told))
     | inr other ↦ inr other
   ]
   right-by Else x (answer.Lost stripe row) right L by = inl (
     none-written bytes old.sink new.sink by.sink,
-    λ zero. absurd (let e : 4 ≡ 0 = sym by.status_is ∙ zero in omega (arith, e)),
+    λ zero. absurd (omega (arith, sym by.status_is ∙ zero)),
   )
   right-by Else x how right L by = absurd L.gives
 
@@ -74,8 +70,7 @@ module _ (name bytes : List ℕ) (records : List Record) (file : File) (old new 
     | inl (inr r) ↦ inl (early-right (early-at 70 0 refl refl r))
     | inr job ↦ job-cases (λ E. inl (early-right E)) (λ how none left by. right-by Else
         (ran_left records (GetJob name) how old new end.heard left) how (λ got is. right how left got
-        (subst (λ h. GetLeaves (ran_left records (GetJob name) how old new end.heard left) name h) is
-        left.leaves.by_kind)) left.leaves.by_kind by) job
+        (rw is at left.leaves.by_kind)) left.leaves.by_kind by) job
   ]
 
   -- a get with no fault gives the file's bytes where at most b providers are bad, or finds no memory
@@ -85,11 +80,9 @@ module _ (name bytes : List ℕ) (records : List Record) (file : File) (old new 
       GivesUnlessMemory bytes old new end
   seen-complete A few disk sink = alone-well records K begins disk
       (λ r. inr (r.status_is, none-written bytes old.sink new.sink r.sink))
-      (λ how left by. let same : how ≡ answer.Got bytes = get-complete
-      (ran_left records (GetJob name) how old new end.heard left) name bytes file shape in_effect fits size
-      how left.leaves.by_kind few in
-      let told : EndsWith (answer.Got bytes) = subst (λ h. EndsWith h) same by in
-      written-well bytes old new end told.written sink) A
+      (λ how left by. let same = get-complete (ran_left records (GetJob name) how old new end.heard left) name
+      bytes file shape in_effect fits size how left.leaves.by_kind few in
+      written-well bytes old new end (subst (λ h. EndsWith h) same by).written sink) A
 
   -- a get gives at most a front of the file's bytes, and all at status 0, where at most b + 1 are bad
   pub seen-right : AnswersAlone (GetJob name) old new end →

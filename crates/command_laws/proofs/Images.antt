@@ -1,5 +1,5 @@
 -- What the images of the disk stand for after a command.
-use Rattle.command_laws.proofs.Words.{◌≡◌, ◌≢◌, ℕ, zero, suc, ◌+◌, ◌<◌, ◌⊎◌, true, false, List, [], ◌∷◌, ◌++◌, length, take, reverse, Option, None, Some, refl, ap, sym, subst, ◌∙◌, inl, inr, arith, IfSome, IsSomeAnd, is_some, option_map, false≢true, reverse-append, Cells, reads, synced, IsImage, EachImage, Record, PutStart, AuditStart, AuditDone, largest_journal, Area, other_area, StandsActive, packed, StandsFor, next_id, next_audit, Kind, PutJob, GetJob, DropJob, AuditJob, RepairJob, UpgradeJob, Answer, Command, Numbers, PutUnder, PutAt, GetOf, DropOf, ListAll, AuditAll, RepairAll, UpgradeJournal, ScrubAll, PackJournal, IsResynced, IsFree, IsSetUpOn, MayBeLeft, Seen, Ending, IsRefused, KeepsDisk, IsOpened, Ran, IsWhole, IsCut, IsCutInDoubt, put_done, put_records, MayHaveEnd, PutIsCut, audit_records, AuditIsCut, LeavesBy, setup_with, AnswersInit, AnswersScrub, PackLeaves, AnswersPack, AnswersPut, AnswersAlone, AnswersList, Answers, IsKnown, put_of, profile_named, RunsKind, ReadsWhole, opens_store, KeepsImages, AreAppended, IsAfter, LeavesImages, InitImages, image-firm, each_image-mono, IsImage-reads, stands-front, stands-long, one_list, image-resynced, resynced, set_up-free, LeftAlone}
+use Rattle.command_laws.proofs.Words.{◌≡◌, ◌≢◌, ℕ, zero, suc, ◌+◌, ◌<◌, ◌⊎◌, true, List, [], ◌∷◌, ◌++◌, length, take, reverse, Option, None, Some, refl, ap, sym, subst, ◌∙◌, inl, inr, arith, IfSome, IsSomeAnd, is_some, option_map, false≢true, reverse-append, Cells, reads, synced, IsImage, EachImage, Record, PutStart, AuditStart, AuditDone, largest_journal, Area, other_area, StandsActive, packed, StandsFor, next_id, next_audit, Kind, PutJob, GetJob, DropJob, AuditJob, RepairJob, UpgradeJob, Answer, Command, Numbers, PutUnder, PutAt, ListAll, ScrubAll, PackJournal, IsResynced, IsFree, IsSetUpOn, MayBeLeft, Seen, Ending, IsRefused, KeepsDisk, IsOpened, Ran, IsWhole, IsCut, IsCutInDoubt, put_done, put_records, MayHaveEnd, PutIsCut, audit_records, AuditIsCut, LeavesBy, setup_with, AnswersInit, AnswersScrub, PackLeaves, AnswersPack, AnswersPut, AnswersAlone, AnswersList, Answers, IsKnown, put_of, profile_named, RunsKind, ReadsWhole, opens_store, KeepsImages, AreAppended, IsAfter, LeavesImages, InitImages, image-firm, each_image-mono, IsImage-reads, stands-front, stands-long, one_list, image-resynced, resynced, set_up-free, LeftAlone, RowOf, InitWith}
 use Rattle.std.proofs.Math.Seq.{take-append_seam, take-append-add, take-length}
 use Rattle.device_defs.specs.Told.{Goes}
 use Rattle.machine_defs.specs.Answers as answer
@@ -11,8 +11,7 @@ use Rattle.command_laws.proofs.Early.{IsEarly, list-cases, scrub-cases, pack-cas
 -- ---- images of a disk that was synced
 
 image-synced : (cells : Cells) (image : List ℕ) → IsImage (synced cells) image → IsImage cells image
-image-synced cells image is =
-    subst (IsImage cells) (sym (image-firm (reads cells) image is)) (IsImage-reads cells)
+image-synced cells image is = rw (← (image-firm (reads cells) image is)) at (IsImage-reads cells)
 
 -- each image was one before
 abbrev Keeps : Option Cells → Option Cells → Type 0
@@ -25,14 +24,12 @@ keeps-resynced old new g = absurd g
 
 keeps-synced : (old new : Option Cells) → new ≡ option_map synced old → Keeps old new
 keeps-synced None new is = tt
-keeps-synced (Some old) new is =
-    subst (λ (d : Option Cells). EachImage d (IsImage old)) (sym is) (image-synced old)
+keeps-synced (Some old) new is = subst (λ d. EachImage d (IsImage old)) (sym is) (image-synced old)
 
 -- a disk that is as before has only images that it had before
 pub keeps-same : (old new : Option Cells) → new ≡ old → Keeps old new
 keeps-same None new is = tt
-keeps-same (Some old) new is =
-    subst (λ (d : Option Cells). EachImage d (IsImage old)) (sym is) (λ image of. of)
+keeps-same (Some old) new is = subst (λ d. EachImage d (IsImage old)) (sym is) (λ image of. of)
 
 -- after a refusal the disk has only images that it had before
 pub refused-keeps : (status at : ℕ) (old new : Seen) (end : Ending) → IsRefused status at old new end →
@@ -59,14 +56,14 @@ came-whole : (x : Ran) (own : List Record) → IsWhole x own → Came x own
 came-whole x own W = record {
   count = length own;
   after = W.after
-      ∙ ap (λ (l : List Record). reverse l ++ x.records) (sym (take-length own));
+      ∙ ap (λ l. reverse l ++ x.records) (sym (take-length own));
   doubt = inl W.sure;
 }
 
 came-cut : (x : Ran) (own : List Record) → IsCut x own → Came x own
 came-cut x own C = record {
   count = length C.done;
-  after = C.after ∙ ap (λ (l : List Record). reverse l ++ x.records)
+  after = C.after ∙ ap (λ l. reverse l ++ x.records)
       (sym (ap (take (length C.done)) C.parts ∙ take-append_seam C.done (C.next ∷ C.rest)));
   doubt = inl C.sure;
 }
@@ -74,7 +71,7 @@ came-cut x own C = record {
 came-doubt : (x : Ran) (own : List Record) → IsCutInDoubt x own → Came x own
 came-doubt x own C = record {
   count = length C.done;
-  after = C.after ∙ ap (λ (l : List Record). reverse l ++ x.records)
+  after = C.after ∙ ap (λ l. reverse l ++ x.records)
       (sym (ap (take (length C.done)) C.parts ∙ take-append_seam C.done (C.next ∷ C.rest)));
   doubt = elim C.doubt [ inl sure ↦ inl sure | inr is ↦ inr (C.next, is, more) ];
 }
@@ -86,9 +83,9 @@ came-doubt x own C = record {
         ∙ take-append-add C.done (C.next ∷ C.rest) 1)
 
     more : C.next ∷ x.after ≡ reverse (take (suc (length C.done)) own) ++ x.records
-    more = ap (λ (l : List Record). C.next ∷ l) C.after
-        ∙ (ap (λ (l : List Record). l ++ x.records) (sym (reverse-append C.done (C.next ∷ [])))
-        ∙ ap (λ (l : List Record). reverse l ++ x.records) (sym one))
+    more = ap (λ l. C.next ∷ l) C.after
+        ∙ (ap (λ l. l ++ x.records) (sym (reverse-append C.done (C.next ∷ [])))
+        ∙ ap (λ l. reverse l ++ x.records) (sym one))
 
 came-put : (x : Ran) (profile : Option ℕ) (name bytes : List ℕ) → PutIsCut x profile name bytes →
     Came x (put_records x.records name (length bytes) profile)
@@ -97,8 +94,7 @@ came-put x profile name bytes (PutIsCut.at_start after doubt held) = record {
   after = after;
   doubt = elim doubt [
     | inl sure ↦ inl sure
-    | inr is ↦
-        inr (_, is, ap (λ (l : List Record). PutStart (next_id x.records) name ∷ l) after)
+    | inr is ↦ inr (_, is, ap (λ l. PutStart (next_id x.records) name ∷ l) after)
   ];
 }
 came-put x profile name bytes (PutIsCut.at_done after doubt stored) = record {
@@ -106,8 +102,7 @@ came-put x profile name bytes (PutIsCut.at_done after doubt stored) = record {
   after = after;
   doubt = elim doubt [
     | inl sure ↦ inl sure
-    | inr is ↦
-        inr (_, is, ap (λ (l : List Record). put_done x.records (length bytes) profile ∷ l) after)
+    | inr is ↦ inr (_, is, ap (λ l. put_done x.records (length bytes) profile ∷ l) after)
   ];
 }
 
@@ -125,23 +120,16 @@ cut-wrote x (AuditIsCut.at_start after doubt none) = audit-wrote x 0 [] (record 
   after = after;
   doubt = elim doubt [
     | inl sure ↦ inl sure
-    | inr is ↦
-        inr (_, is, ap (λ (l : List Record). AuditStart (next_audit x.records) ∷ l) after)
+    | inr is ↦ inr (_, is, ap (λ l. AuditStart (next_audit x.records) ∷ l) after)
   ];
 })
 cut-wrote x (AuditIsCut.before_done after sure hears) =
     audit-wrote x 0 [] (record { count = 1; after = after; doubt = inl sure })
-cut-wrote x (AuditIsCut.at_done undecided counts after is hears counted) =
-    audit-wrote x undecided counts
+cut-wrote x (AuditIsCut.at_done undecided counts after is hears counted) = audit-wrote x undecided counts
     (record {
       count = 1;
       after = after;
-      doubt = inr (
-        _,
-        is,
-        ap
-            (λ (l : List Record). AuditDone (next_audit x.records) undecided counts ∷ l) after,
-      );
+      doubt = inr (_, is, ap (λ l. AuditDone (next_audit x.records) undecided counts ∷ l) after);
     })
 
 wrote-by : (x : Ran) (kind : Kind) (profile : Option ℕ) (how : Answer) → LeavesBy x kind profile how →
@@ -269,8 +257,7 @@ job-images : (command : Command) (kind : Kind) (profile : Option ℕ) (records :
     ReadsAll (ran_left records kind how old new end.heard left) kind profile old new →
     LeavesImages command old new
 job-images command kind profile records old new end named is opened how left all =
-    LeavesImages.ran records kind opened is
-    (subst (λ p. EachImage new.disk (IsAfter records kind p old new)) (sym named)
+    LeavesImages.ran records kind opened is (rw (← named) at
     (images-after (ran_left records kind how old new end.heard left) opened.area kind profile old new all
     (wrote-by (ran_left records kind how old new end.heard left) kind profile how left.leaves.by_kind)
     new.disk left.images))
@@ -306,8 +293,7 @@ alone-images command kind old new end named is none = alone-cases (λ E. LeavesI
     left (reads-none (ran_left records kind how old new end.heard left) kind None old new none))
 
 list-images : (old new : Seen) (end : Ending) → AnswersList old new end → KeepsImages old new
-list-images old new end =
-    list-cases early-keeps (λ records opened L. keeps-synced old.disk new.disk L.disk)
+list-images old new end = list-cases early-keeps (λ records opened L. keeps-synced old.disk new.disk L.disk)
 
 -- a scrub at most syncs the disk
 pub scrub-disk : (old new : Seen) (end : Ending) → AnswersScrub old new end → KeepsDisk old new
@@ -327,8 +313,7 @@ pack-by : (area : Area) (records : List Record) (how : Answer) (old new : Seen) 
     PackLeaves area records how old new → EachImage new.disk (StandsPacked records)
 pack-by area records (answer.Packed before after) old new L =
     each_image-mono new.disk _ _ (λ image h. inr (other_area area, h)) L.2
-pack-by area records answer.DiskFault old new L =
-    each_image-mono new.disk _ _
+pack-by area records answer.DiskFault old new L = each_image-mono new.disk _ _
     (λ image h. elim h [ inl s ↦ inl (area, s) | inr s ↦ inr (other_area area, s) ]) L.1
 pack-by area records answer.Memory old new L = each_image-mono new.disk _ _ (λ image h. inl (area, h)) L
 pack-by area records how old new L = absurd L
@@ -341,28 +326,20 @@ pack-images old new end = pack-cases (λ E. LeavesImages.kept (early-keeps E))
 -- a command leaves images as before, or ones of the records read with some that its job wrote, or packed
 pub store-images : (command : Command) (old new : Seen) (end : Ending) → Answers command old new end →
     opens_store command ≡ true → LeavesImages command old new
+store-images (RowOf n l b seen) old new end A opens = absurd (false≢true opens)
+store-images (InitWith numbers) old new end A opens = absurd (false≢true opens)
 store-images (PutUnder name) old new end A opens = put-images name None old new end A
 store-images (PutAt name profile) old new end A opens = put-images name (Some profile) old new end A
-store-images (GetOf name) old new end A opens =
-    alone-images (GetOf name) (GetJob name) old new end refl refl tt A.0
-store-images (DropOf name) old new end A opens =
-    alone-images (DropOf name) (DropJob name) old new end refl refl tt A.0
 store-images ListAll old new end A opens = LeavesImages.kept (list-images old new end A.0)
-store-images AuditAll old new end A opens = alone-images AuditAll AuditJob old new end refl refl tt A.0
-store-images RepairAll old new end A opens = alone-images RepairAll RepairJob old new end refl refl tt A.0
-store-images UpgradeJournal old new end A opens =
-    alone-images UpgradeJournal UpgradeJob old new end refl refl tt A.0
 store-images ScrubAll old new end A opens = LeavesImages.kept (scrub-images old new end A.0)
 store-images PackJournal old new end A opens = pack-images old new end A.0
-store-images command old new end A opens = absurd (false≢true opens)
+store-images command old new end A opens = alone-images command _ old new end refl refl tt A.0
 
 -- what each image stands for, where each stood for the records before
 abbrev StandsAfter : Command → List Record → Seen → Seen → List ℕ → Type 0
 StandsAfter command records old new image =
-    StandsFor image records
-    ⊎ (((kind : Kind) × RunsKind command old new kind
-    × IsAfter records kind (profile_named command) old new image)
-    ⊎ ((command ≡ PackJournal) × StandsFor image (packed records)))
+    StandsFor image records ⊎ (((kind : Kind) × RunsKind command old new kind × IsAfter records kind
+    (profile_named command) old new image) ⊎ ((command ≡ PackJournal) × StandsFor image (packed records)))
 
 kept-stand : (command : Command) (records : List Record) (old new : Seen) (before after : Option Cells) →
     IfSome before (λ cells. EachImage after (IsImage cells)) → before ≢ None →
@@ -381,25 +358,22 @@ pub known-images : (command : Command) (records : List Record) (old new : Seen) 
 known-images command records old new end A opens K stand = go (store-images command old new end A opens)
   where
     tells : old.disk ≢ None
-    tells none = false≢true (let e : false ≡ true = sym (ap is_some none) ∙ K.tells in e)
+    tells none = false≢true (sym (ap is_some none) ∙ K.tells)
 
     go : LeavesImages command old new → EachImage new.disk (StandsAfter command records old new)
     go (LeavesImages.kept kept) = kept-stand command records old new old.disk new.disk kept tells stand
     go (LeavesImages.ran other kind opened is images) =
         each_image-mono new.disk _ _ (λ image after. inr (inl (kind, is, after)))
-        (subst (λ rs. EachImage new.disk (IsAfter rs kind (profile_named command) old new))
-        (known-once old records other K opened.read) images)
+        (rw (known-once old records other K opened.read) at images)
     go (LeavesImages.was_packed other opened is images) =
         each_image-mono new.disk (StandsPacked records) (StandsAfter command records old new)
         (λ image h. elim h [ inl s ↦ inl s | inr s ↦ inr (inr (is, s)) ])
-        (subst (λ rs. EachImage new.disk (StandsPacked rs))
-        (known-once old records other K opened.read) images)
+        (rw (known-once old records other K opened.read) at images)
 
 -- ---- init
 
 not-free : (cells : Cells) (rs : List Record) → rs ≢ [] → StandsFor (reads cells) rs → IsFree cells → ⊥
-not-free cells rs some S (inl short) =
-    (let long = stands-long (reads cells) rs some S in omega (arith, long, short))
+not-free cells rs some S (inl short) = (omega (arith, stands-long (reads cells) rs some S, short))
 not-free cells rs some S (inr none) =
     some (one_list (reads cells) rs [] S (stands-front largest_journal (reads cells) [] none))
 

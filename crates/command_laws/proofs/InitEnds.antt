@@ -1,51 +1,39 @@
 -- How `init` and `list` end, and what they have done where they are done.
-use Rattle.command_laws.proofs.Words.{◌≡◌, ◌≢◌, ℕ, ◌==◌, Bool, refl, ◌+◌, ◌<◌, ◌≤◌, ◌⊎◌, true, false, List, [], ◌∷◌, ◌++◌, length, Option, None, Some, ap, sym, subst, ◌∙◌, inl, inr, arith, length-append, length-take, IfSome, false≢true, append-nil, Cells, reads, Rose, Record, Setup, SetUp, is_setup, largest_journal, base_of, files_of, Numbers, IsKeyForm, longest_key, WritesLine, Seen, Ending, IsRefused, ReadsUpTo, sinking, journal_read, BeginsWithSetup, BeginsOtherwise, IsBadInit, IsSetUpAlready, IsFree, IsSetUpOn, setup_with, AnswersInit, InitsDisk, ready_line, list_lines, AnswersList, IsDone, IsKnown, GivesUnlessMemory, IsKeyed, IsInit, IsListed, one_meaning, one_list, bad_is_none, one_place, IsKeyForm-once, set_up-free}
+use Rattle.command_laws.proofs.Words.{◌≡◌, ℕ, ◌==◌, Bool, refl, ◌+◌, ◌<◌, ◌≤◌, ◌⊎◌, true, false, List, [], ◌∷◌, length, Option, None, Some, ap, sym, subst, ◌∙◌, inl, inr, arith, length-append, length-take, false≢true, Cells, reads, Rose, Record, Setup, SetUp, is_setup, largest_journal, base_of, files_of, Numbers, IsKeyForm, longest_key, WritesLine, Seen, Ending, IsRefused, ReadsUpTo, sinking, journal_read, BeginsWithSetup, BeginsOtherwise, IsBadInit, IsSetUpAlready, IsFree, IsSetUpOn, setup_with, AnswersInit, InitsDisk, ready_line, list_lines, AnswersList, IsDone, IsKnown, GivesUnlessMemory, IsKeyed, IsInit, IsListed, one_meaning, one_list, bad_is_none, one_place, IsKeyForm-once, set_up-free}
 use Rattle.std.specs.Prelude.{◌||◌}
 use Rattle.device_defs.specs.Told.{Goes}
-use Rattle.command_laws.proofs.Known.{none-written, written-well, known-once, unstarted-known}
-use Rattle.command_laws.proofs.JobEnds.{memory-well}
+use Rattle.command_laws.proofs.Known.{unstarted-memory, none-written, written-well, known-once}
+use Rattle.command_laws.proofs.JobEnds.{memory-well, read-all, front-short}
 use Rattle.command_laws.proofs.Early.{early-done, list-cases}
 
 -- ---- the key
 
 -- a text of the form is shorter than what is read
 form-length : (text key : List ℕ) → IsKeyForm text key → length text < longest_key
-form-length text key F = elim F.line_end [
-  | inl none ↦ (let a = ap length F.text_is in let b = length-append F.digits F.behind in let c = F.size in
-      let d = ap length none in omega (arith, a, b, c, d))
-  | inr (inl line) ↦ (let a = ap length F.text_is in let b = length-append F.digits F.behind in
-      let c = F.size in let d = ap length line in omega (arith, a, b, c, d))
-  | inr (inr line) ↦ (let a = ap length F.text_is in let b = length-append F.digits F.behind in
-      let c = F.size in let d = ap length line in omega (arith, a, b, c, d))
-]
+form-length text key F = (let behind : length F.behind ≤ 2 = elim F.line_end [
+  | inl e ↦ omega (arith, ap length e)
+  | inr (inl e) ↦ omega (arith, ap length e)
+  | inr (inr e) ↦ omega (arith, ap length e)
+] in
+    omega (arith, ap length F.text_is, length-append F.digits F.behind, F.size))
 
 -- what is read of a source is all of it, where one of the two is short
 short-read : (old new : Option (List ℕ)) (bytes seen : List ℕ) → old ≡ Some bytes →
     length seen < longest_key → ReadsUpTo longest_key old new seen → bytes ≡ seen
-short-read old None bytes seen is short R = absurd (let e : Some bytes ≡ None = sym is ∙ R.front in cc)
-short-read old (Some left) bytes seen is short R =
-    (let e : Some bytes ≡ Some (seen ++ left) = sym is ∙ R.front in
-    let f : bytes ≡ seen ++ left = cc in
-    f ∙ (ap (λ l. seen ++ l) (R.end short) ∙ append-nil seen))
-
-seen-short : (old new : Option (List ℕ)) (bytes seen : List ℕ) → old ≡ Some bytes →
-    length bytes < longest_key → ReadsUpTo longest_key old new seen → length seen < longest_key
-seen-short old None bytes seen is short R = absurd (let e : Some bytes ≡ None = sym is ∙ R.front in cc)
-seen-short old (Some left) bytes seen is short R =
-    (let e : Some bytes ≡ Some (seen ++ left) = sym is ∙ R.front in
-    let f : bytes ≡ seen ++ left = cc in
-    let size = ap length f in let sum = length-append seen left in omega (arith, size, sum, short))
+short-read old new bytes seen is short R = sym (read-all old new bytes seen is
+    (record { are_bytes = R.are_bytes; front = R.front }) (R.end short))
 
 form-seen : (old new : Option (List ℕ)) (bytes seen key : List ℕ) → old ≡ Some bytes →
     ReadsUpTo longest_key old new seen → IsKeyForm bytes key → IsKeyForm seen key
 form-seen old new bytes seen key is R F = subst (λ b. IsKeyForm b key)
-    (short-read old new bytes seen is (seen-short old new bytes seen is (form-length bytes key F) R) R) F
+    (short-read old new bytes seen is
+    (omega (arith, front-short old new bytes seen is R.front, form-length bytes key F)) R) F
 
 -- where what was read of the source has the key's form, the whole source has it
 pub form-all : (old new : Option (List ℕ)) (bytes seen key : List ℕ) → old ≡ Some bytes →
     ReadsUpTo longest_key old new seen → IsKeyForm seen key → IsKeyForm bytes key
 form-all old new bytes seen key is R F =
-    subst (λ b. IsKeyForm b key) (sym (short-read old new bytes seen is (form-length seen key F) R)) F
+    rw (← (short-read old new bytes seen is (form-length seen key F) R)) at F
 
 -- ---- what a disk reads, when a store is set up
 
@@ -66,25 +54,23 @@ bad-once bytes at other (inr a) (inr b) = a.place
 bad-already : (bytes : List ℕ) (at : ℕ) → IsBadInit bytes at → IsSetUpAlready bytes → ⊥
 bad-already bytes at (inl a) b = bad_is_none bytes at b.1.0 b.0 a b.1.1
 bad-already bytes at (inr a) b =
-    one-begin b.0
-    (subst BeginsOtherwise (one_list bytes a.records b.0 (a.area, a.stands) b.1) a.otherwise) b.2
+    one-begin b.0 (rw (one_list bytes a.records b.0 (a.area, a.stands) b.1) at a.otherwise) b.2
 
 read-short : (cells : Cells) → length (journal_read cells) ≤ length (reads cells)
-read-short cells = (let e = length-take largest_journal (reads cells) in omega (arith, e))
+read-short cells = omega (arith, length-take largest_journal (reads cells))
 
 bad-free : (cells : Cells) (at : ℕ) → 9 < length (journal_read cells) → IsBadInit (journal_read cells) at →
     IsFree cells → ⊥
-bad-free cells at long bad (inl short) = (let e = read-short cells in omega (arith, long, short, e))
+bad-free cells at long bad (inl short) = omega (arith, long, short, read-short cells)
 bad-free cells at long (inl bad) (inr none) = bad_is_none (journal_read cells) at none.0 [] bad none.1
 bad-free cells at long (inr bad) (inr none) =
-    subst BeginsOtherwise (one_list (journal_read cells) bad.records [] (bad.area, bad.stands) none)
-    bad.otherwise
+    rw (one_list (journal_read cells) bad.records [] (bad.area, bad.stands) none) at bad.otherwise
 
 already-free : (cells : Cells) → 9 < length (journal_read cells) → IsSetUpAlready (journal_read cells) →
     IsFree cells → ⊥
-already-free cells long set_up (inl short) = (let e = read-short cells in omega (arith, long, short, e))
+already-free cells long set_up (inl short) = omega (arith, long, short, read-short cells)
 already-free cells long set_up (inr none) =
-    subst BeginsWithSetup (one_list (journal_read cells) set_up.0 [] set_up.1 none) set_up.2
+    rw (one_list (journal_read cells) set_up.0 [] set_up.1 none) at set_up.2
 
 -- ---- which statuses an init may end with
 
@@ -195,7 +181,7 @@ pub journal-only : (numbers : Numbers) (cells : Cells) (old new : Seen) (end : E
     (9 < length (journal_read cells)) × IsBadInit (journal_read cells) end.at
 journal-only numbers cells old new end tells (AnswersInit.keyed seen key good enough read form (InitsDisk.bad_journal at is r)) is_8 =
     subst (λ k. (9 < length (journal_read cells)) × IsBadInit (journal_read cells) k) (sym r.place)
-    (subst (λ d. IfSome d (λ c. (9 < length (journal_read c)) × IsBadInit (journal_read c) at)) tells is)
+    (rw tells at is)
 journal-only numbers cells old new end tells A is_8 = absurd (init-not numbers old new end A 8 is_8 refl)
 
 -- an init ends with 10 only where the disk holds the journal of a store that is set up
@@ -203,7 +189,7 @@ pub already-only : (numbers : Numbers) (cells : Cells) (old new : Seen) (end : E
     old.disk ≡ Some cells → AnswersInit numbers old new end → end.status ≡ 10 →
     (9 < length (journal_read cells)) × IsSetUpAlready (journal_read cells)
 already-only numbers cells old new end tells (AnswersInit.keyed seen key good enough read form (InitsDisk.already is r)) is_10 =
-    subst (λ d. IfSome d (λ c. (9 < length (journal_read c)) × IsSetUpAlready (journal_read c))) tells is
+    (rw tells at is)
 already-only numbers cells old new end tells A is_10 = absurd (init-not numbers old new end A 10 is_10 refl)
 
 -- ---- and always with them
@@ -263,45 +249,33 @@ keyed-disk : (numbers : Numbers) (key : List ℕ) (old new : Seen) (end : Ending
 keyed-disk numbers key old new end (AnswersInit.bad_setup bad same r) K calm =
     absurd (false≢true (sym bad ∙ K.good))
 keyed-disk numbers key old new end (AnswersInit.too_few_providers fine few same r) K calm =
-    absurd (let e = K.enough in omega (arith, e, few))
+    absurd (omega (arith, K.enough, few))
 keyed-disk numbers key old new end (AnswersInit.source_fault fine also rose taken r) K calm =
     absurd (calm rose)
 keyed-disk numbers key old new end (AnswersInit.bad_key seen fine also read lacks r) K calm =
     absurd (lacks key (form-seen old.source new.source K.bytes seen key K.source read K.form))
 keyed-disk numbers key old new end (AnswersInit.keyed seen other fine also read form D) K calm =
-    inl (subst (λ k. InitsDisk (setup_with numbers k) old new end)
-    (IsKeyForm-once K.bytes other key
-    (form-all old.source new.source K.bytes seen other K.source read form) K.form) D)
+    inl (rw (IsKeyForm-once K.bytes other key
+    (form-all old.source new.source K.bytes seen other K.source read form) K.form) at D)
 keyed-disk numbers key old new end (AnswersInit.no_memory taken r) K calm = inr r
 
 -- one that is done set it up on a free disk
 ready-free : (s : Setup) (cells : Cells) (old new : Option Cells) → old ≡ Some cells →
     Goes (IsSetUpOn s) old new → IsFree cells
-ready-free s cells None new tells g = absurd (let e : None ≡ Some cells = tells in cc)
+ready-free s cells None new tells g = absurd (cc tells)
 ready-free s cells (Some before) None tells g = absurd g
 ready-free s cells (Some before) (Some now) tells g =
-    subst IsFree (let e : Some before ≡ Some cells = tells in let f : before ≡ cells = cc in f)
-    (set_up-free s before now g)
+    subst IsFree (let e = tells in cc) (set_up-free s before now g)
 
 module _ (s : Setup) (cells : Cells) (old new : Seen) (end : Ending) (tells : old.disk ≡ Some cells)
     (calm : Rose old.disk_faults new.disk_faults → ⊥) where
-  told-bad : (at : ℕ) → IfSome old.disk (λ c. (9 < length (journal_read c)) × IsBadInit (journal_read c) at) →
-      (9 < length (journal_read cells)) × IsBadInit (journal_read cells) at
-  told-bad at is = subst (λ d. IfSome d (λ c. (9 < length (journal_read c)) × IsBadInit (journal_read c) at))
-      tells is
-
-  told-already : IfSome old.disk (λ c. (9 < length (journal_read c)) × IsSetUpAlready (journal_read c)) →
-      (9 < length (journal_read cells)) × IsSetUpAlready (journal_read cells)
-  told-already is = subst
-      (λ d. IfSome d (λ c. (9 < length (journal_read c)) × IsSetUpAlready (journal_read c))) tells is
-
   disk-bad : (at : ℕ) → 9 < length (journal_read cells) → IsBadInit (journal_read cells) at →
       InitsDisk s old new end → ((end.status ≡ 8) × (end.at ≡ at)) ⊎ (end.status ≡ 70)
   disk-bad at long bad (InitsDisk.disk_fault rose F) = absurd (calm rose)
   disk-bad at long bad (InitsDisk.bad_journal other is r) =
-      inl (r.status_is, r.place ∙ bad-once (journal_read cells) other at (told-bad other is).1 bad)
+      inl (r.status_is, r.place ∙ bad-once (journal_read cells) other at (rw tells at is).1 bad)
   disk-bad at long bad (InitsDisk.already is r) =
-      absurd (bad-already (journal_read cells) at bad (told-already is).1)
+      absurd (bad-already (journal_read cells) at bad (rw tells at is).1)
   disk-bad at long bad (InitsDisk.no_memory F) = inr F.status_is
   disk-bad at long bad (InitsDisk.ready R) =
       absurd (bad-free cells at long bad (ready-free s cells old.disk new.disk tells R.disk))
@@ -310,7 +284,7 @@ module _ (s : Setup) (cells : Cells) (old new : Seen) (end : Ending) (tells : ol
       InitsDisk s old new end → (end.status ≡ 10) ⊎ (end.status ≡ 70)
   disk-already long set_up (InitsDisk.disk_fault rose F) = absurd (calm rose)
   disk-already long set_up (InitsDisk.bad_journal at is r) =
-      absurd (bad-already (journal_read cells) at (told-bad at is).1 set_up)
+      absurd (bad-already (journal_read cells) at (rw tells at is).1 set_up)
   disk-already long set_up (InitsDisk.already is r) = inl r.status_is
   disk-already long set_up (InitsDisk.no_memory F) = inr F.status_is
   disk-already long set_up (InitsDisk.ready R) =
@@ -320,9 +294,9 @@ module _ (s : Setup) (cells : Cells) (old new : Seen) (end : Ending) (tells : ol
       GivesUnlessMemory ready_line old new end
   disk-free free sink (InitsDisk.disk_fault rose F) = absurd (calm rose)
   disk-free free sink (InitsDisk.bad_journal at is r) =
-      absurd (let b = told-bad at is in bad-free cells at b.0 b.1 free)
+      absurd (let b = rw tells at is in bad-free cells at b.0 b.1 free)
   disk-free free sink (InitsDisk.already is r) =
-      absurd (let b = told-already is in already-free cells b.0 b.1 free)
+      absurd (let b = rw tells at is in already-free cells b.0 b.1 free)
   disk-free free sink (InitsDisk.no_memory F) =
       inr (F.status_is, none-written ready_line old.sink new.sink F.sink)
   disk-free free sink (InitsDisk.ready R) = written-well ready_line old new end R.written sink
@@ -379,13 +353,9 @@ pub list-well : (records : List Record) (old new : Seen) (end : Ending) → Answ
     IsKnown old records → (Rose old.disk_faults new.disk_faults → ⊥) →
     (Rose old.sink_faults new.sink_faults → ⊥) → GivesUnlessMemory (list_lines (files_of records)) old new end
 list-well records old new end (AnswersList.unstarted u) K disk sink =
-    elim (unstarted-known old new end records K u) [
-      | inl (rose, r) ↦ absurd (disk rose)
-      | inr r ↦ memory-well (list_lines (files_of records)) old new end r
-    ]
+    memory-well (list_lines (files_of records)) old new end (unstarted-memory K disk u)
 list-well records old new end (AnswersList.no_memory r) K disk sink =
     memory-well (list_lines (files_of records)) old new end r
 list-well records old new end (AnswersList.listed other opened L) K disk sink =
-    subst (λ rs. GivesUnlessMemory (list_lines (files_of rs)) old new end)
-    (known-once old records other K opened.read)
-    (written-well (list_lines (files_of other)) old new end L.written sink)
+    rw (known-once old records other K opened.read) at (written-well (list_lines (files_of other)) old new end
+    L.written sink)

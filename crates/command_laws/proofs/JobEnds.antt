@@ -1,12 +1,12 @@
 -- How puts, drops, audits and repairs end, and what they have done where they are done.
-use Rattle.command_laws.proofs.Words.{◌≡◌, ◌≢◌, ℕ, ◌+◌, ◌*◌, ◌<◌, ◌≤◌, ◌==◌, ◌⊎◌, Bool, true, false, cond, List, [], ◌∷◌, ◌++◌, length, drop, Option, None, Some, refl, ap, sym, subst, ◌∙◌, inl, inr, arith, length-append, IsSomeAnd, IfSome, nat_lt, cases_Bool, cases_lt, eq-eqb, false≢true, append-nil, take-append-drop, Cells, Rose, EachImage, then_told, Held, Provider, Setup, Record, PutStart, PutDone, PutDoneIn, is_byte, largest_file, Area, StandsActive, File, Due, version_of, next_id, next_audit, file_of, due_of, started_as, is_start_of, file_as, profile_in, setup_of, Kind, PutJob, GetJob, DropJob, AuditJob, RepairJob, UpgradeJob, ToPut, ToUpgrade, Answer, AreBytes, Entry, setup_or_none, chosen, Refusal, causes, Command, DropOf, AuditAll, UpgradeJournal, Seen, Ending, IsRefused, ReadsUpTo, ReadsFront, provider_at, IsOpened, Unstarted, setup_in_effect, sight_over, is_unknown, refusal_over, status_of, text_of, stored_line, dropped_line, audit_lines, repaired_line, upgraded_line, Ran, SameHeld, put_done, MayHaveEnd, PutLeaves, put_stripe, StopsReading, PartLeft, DropLeaves, AuditGives, HearsRounds, CountsHeard, RepairGives, AnswersJob, EndsByAnswer, LeftAlone, IsTold, MayBeWhole, AnswersPut, AnswersAlone, AnswersList, Answers, bad_seen, IsDone, IsKnown, GivesUnlessMemory, EndsInOrder, GivesUpPut, RunsKind, SameHolds, put_of, profile_named, put_refusal, after_put, IsWholePut, IsDropped, IsAudited, IsRepaired, IsUpgraded, rose-before, same-refl, cond_true, cond_false, same_value, version-either, put-end, drop-end, audit-end, upgrade-end, repair-end, each_image-mono}
+use Rattle.command_laws.proofs.Words.{◌≡◌, ◌≢◌, ℕ, ◌+◌, ◌*◌, ◌<◌, ◌≤◌, ◌==◌, ◌⊎◌, Bool, true, false, cond, List, [], ◌∷◌, ◌++◌, length, drop, Option, None, Some, refl, ap, sym, subst, ◌∙◌, inl, inr, arith, length-append, IsSomeAnd, IfSome, nat_lt, cases_Bool, cases_lt, eq-eqb, false≢true, append-nil, take-append-drop, Cells, Rose, EachImage, then_told, Held, Provider, Setup, Record, PutStart, PutDone, PutDoneIn, is_byte, largest_file, Area, StandsActive, File, Due, version_of, next_id, next_audit, file_of, due_of, started_as, is_start_of, file_as, profile_in, setup_of, Kind, PutJob, GetJob, DropJob, AuditJob, RepairJob, UpgradeJob, ToPut, ToUpgrade, Answer, AreBytes, Entry, setup_or_none, chosen, Refusal, causes, Command, DropOf, AuditAll, UpgradeJournal, Seen, Ending, IsRefused, ReadsUpTo, ReadsFront, provider_at, IsOpened, Unstarted, setup_in_effect, sight_over, is_unknown, refusal_over, status_of, text_of, stored_line, dropped_line, upgraded_line, Ran, SameHeld, put_done, MayHaveEnd, PutLeaves, put_stripe, StopsReading, PartLeft, DropLeaves, AuditGives, RepairGives, AnswersJob, EndsByAnswer, LeftAlone, IsTold, MayBeWhole, AnswersPut, AnswersAlone, AnswersList, Answers, bad_seen, IsDone, IsKnown, GivesUnlessMemory, EndsInOrder, GivesUpPut, RunsKind, SameHolds, put_of, profile_named, put_refusal, after_put, IsWholePut, IsDropped, IsAudited, IsRepaired, IsUpgraded, rose-before, same-refl, cond_true, cond_false, same_value, version-either, put-end, drop-end, audit-end, upgrade-end, repair-end, each_image-mono}
 use Rattle.std.specs.Prelude.{IsTrue}
 use Rattle.machine_defs.specs.Appends.{done_record}
 use Rattle.command_defs.specs.Upgrades.{UpgradeLeaves}
 use Rattle.machine_defs.specs.Answers as answer
 use Rattle.machine_defs.specs.Refusals as refusal
 use Rattle.state_laws.proofs.Begun.{none-applies}
-use Rattle.command_laws.proofs.Known.{EndStatus, status-ended, none-written, told-refusal, written-well, known-once, unstarted-known, refused-not, refused-only, refused-always, own-status, known-both, ended-so, written-so}
+use Rattle.command_laws.proofs.Known.{unstarted-memory, EndStatus, status-ended, none-written, told-refusal, written-well, known-once, unstarted-known, refused-not, refused-only, refused-always, own-status, known-both, ended-so, written-so}
 use Rattle.command_laws.proofs.GetEnds.{shape-at, ran_left}
 use Rattle.command_laws.proofs.Early.{early-done, early-same, alone-cases, put-cases, list-cases, alone-order, alone-well}
 use Rattle.std.proofs.Common.{◌||◌}
@@ -18,9 +18,8 @@ pub image-has : (area : Area) (image : List ℕ) (after : List Record) (doubt : 
     (records : List Record) → after ≡ records → doubt ≡ None →
     StandsActive image area after ⊎ IsSomeAnd doubt (λ entry. StandsActive image area (entry ∷ after)) →
     StandsActive image area records
-image-has area image after doubt records is sure (inl stands) = subst (StandsActive image area) is stands
-image-has area image after doubt records is sure (inr entry) =
-    absurd (subst (λ d. IsSomeAnd d (λ entry. StandsActive image area (entry ∷ after))) sure entry)
+image-has area image after doubt records is sure (inl stands) = rw is at stands
+image-has area image after doubt records is sure (inr entry) = absurd (rw sure at entry)
 
 -- where nothing is in doubt each image of the disk stands for the records after the job
 pub images-have : (area : Area) (told : Option Cells) (after : List Record) (doubt : Option Record)
@@ -70,26 +69,18 @@ tells how = true
 -- so does the answer of a job that is done
 pub done-tells : (text : List ℕ) (old new : Seen) (end : Ending) (how : Answer) →
     EndsByAnswer text how old new end → IsDone end → tells how ≡ true
-done-tells text old new end (answer.Lost stripe row) by done =
-    elim done [ inl e ↦ ap (λ k. k == 4) (sym e ∙ by.status_is) | inr e ↦ ap (λ k. k == 4) (sym e ∙ by.status_is) ]
-done-tells text old new end (answer.ProviderFault j) by done =
-    elim done [ inl e ↦ ap (λ k. k == 13) (sym e ∙ by.status_is) | inr e ↦ ap (λ k. k == 13) (sym e ∙ by.status_is) ]
-done-tells text old new end answer.DiskFault by done =
-    elim done [ inl e ↦ ap (λ k. k == 12) (sym e ∙ by.status_is) | inr e ↦ ap (λ k. k == 12) (sym e ∙ by.status_is) ]
-done-tells text old new end answer.Memory by done =
-    elim done [ inl e ↦ ap (λ k. k == 70) (sym e ∙ by.status_is) | inr e ↦ ap (λ k. k == 70) (sym e ∙ by.status_is) ]
-done-tells text old new end how by done = refl
+done-tells text old new end (answer.Lost stripe row) by (inl e) = absurd (omega arith)
+done-tells text old new end (answer.Lost stripe row) by (inr e) = absurd (omega arith)
+done-tells text old new end how by done = first_of (cc, grind arith)
 
 -- a job that is done, or found no memory, gives its text unless there was no memory
 well-ended : (text : Answer → List ℕ) (told how : Answer) (old new : Seen) (end : Ending) →
     (EndsByAnswer (text told) told old new end → IsTold (text told) old new end) →
     EndsByAnswer (text how) how old new end → (Rose old.sink_faults new.sink_faults → ⊥) →
     (how ≡ told) ⊎ (how ≡ answer.Memory) → GivesUnlessMemory (text told) old new end
-well-ended text told how old new end is_told by sink (inl same) =
-    (let w = is_told (subst (λ h. EndsByAnswer (text h) h old new end) same by) in
+well-ended text told how old new end is_told by sink (inl same) = (let w = is_told (rw same at by) in
     written-well (text told) old new end w.written sink)
-well-ended text told how old new end is_told by sink (inr same) =
-    (let w = subst (λ h. EndsByAnswer (text h) h old new end) same by in
+well-ended text told how old new end is_told by sink (inr same) = (let w = rw same at by in
     inr (w.status_is, none-written (text told) old.sink new.sink w.sink))
 
 -- a calm disk was calm once it was opened
@@ -112,9 +103,11 @@ put-begins area records name bytes own none = by-profile own none
 
     by-profile : (own : Option ℕ) → refusal_over area records (PutJob name bytes) own ≡ None →
         (is_unknown own ≡ false) × (length bytes ≤ largest_file)
-    by-profile None h =
-        (let off = none-applies (causes 1 (sight_over area records) (ToPut name (length bytes)) None) h in
-        (refl, at-most largest_file (length bytes) off.1.1.1.0))
+    by-profile None h = ((
+      refl,
+      at-most largest_file (length bytes) (none-applies (causes 1 (sight_over area records)
+          (ToPut name (length bytes)) None) h).1.1.1.0,
+    ))
     by-profile (Some p) h =
         (let off = none-applies (causes 1 (sight_over area records) (ToPut name (length bytes)) (Some p)) h in
         (off.1.1.1.0, at-most largest_file (length bytes) off.1.1.1.1.0))
@@ -125,12 +118,12 @@ pub done-case : (P : Record → Type 0) (records : List Record) (size : ℕ) (ow
     P (PutDoneIn (next_id records) size (chosen (setup_in_effect records) own)) →
     P (put_done records size own)
 done-case P records size own first second = elim (cases_Bool (version_of records == 2)) [
-  | inl t ↦ subst P (sym (cond_true (version_of records == 2)
+  | inl t ↦ (rw (← (cond_true (version_of records == 2)
       (PutDoneIn (next_id records) size (chosen (setup_in_effect records) own))
-      (PutDone (next_id records) size) t)) second
-  | inr f ↦ subst P (sym (cond_false (version_of records == 2)
+      (PutDone (next_id records) size) t)) at second)
+  | inr f ↦ (rw (← (cond_false (version_of records == 2)
       (PutDoneIn (next_id records) size (chosen (setup_in_effect records) own))
-      (PutDone (next_id records) size) f)) first
+      (PutDone (next_id records) size) f)) at first)
 ]
 
 -- a put leaves the setup in effect
@@ -159,7 +152,7 @@ first-profile : (area : Area) (records : List Record) (name bytes : List ℕ) (o
 first-profile area records name bytes None one h = setup-profile (setup_of records)
 first-profile area records name bytes (Some p) one h = absurd
     (let off = none-applies (causes 1 (sight_over area records) (ToPut name (length bytes)) (Some p)) h in
-    let on : (version_of records == 1) ≡ true = eq-eqb (version_of records) 1 one in
+    let on = eq-eqb (version_of records) 1 one in
     false≢true (sym off.1.1.1.1.1.0 ∙ on))
 
 -- after a put's two records its file is in effect under its name, with the profile that it names
@@ -178,15 +171,13 @@ put-in_effect area records name bytes own begins = by-version (version-either re
     by-version : (version_of records ≡ 1) ⊎ (version_of records ≡ 2) →
         file_of (after_put records name (length bytes) own) name
         ≡ Some (file_as name (next_id records) (length bytes) (chosen (setup_in_effect records) own))
-    by-version (inl one) =
-        ap (λ r. file_of (r ∷ PutStart (next_id records) name ∷ records) name)
+    by-version (inl one) = ap (λ r. file_of (r ∷ PutStart (next_id records) name ∷ records) name)
         (ap (λ v. done_record v (next_id records) (length bytes) (chosen (setup_in_effect records) own)) one)
         ∙ (cond_true (is_start_of name
         (started_as (PutStart (next_id records) name ∷ records) (next_id records))) _ _ started
         ∙ ap (λ p. Some (file_as name (next_id records) (length bytes) p))
         (first-profile area records name bytes own one begins))
-    by-version (inr two) =
-        ap (λ r. file_of (r ∷ PutStart (next_id records) name ∷ records) name)
+    by-version (inr two) = ap (λ r. file_of (r ∷ PutStart (next_id records) name ∷ records) name)
         (ap (λ v. done_record v (next_id records) (length bytes) (chosen (setup_in_effect records) own)) two)
         ∙ cond_true (is_start_of name
         (started_as (PutStart (next_id records) name ∷ records) (next_id records))) _ _ started
@@ -221,10 +212,7 @@ module _ (name bytes : List ℕ) (own : Option ℕ) (records : List Record) {old
     in_effect = put-in_effect opened.area records name bytes own none;
     stored = L.1;
   }
-  put-by (answer.ProviderFault j) left whole L by t = absurd (false≢true t)
-  put-by answer.DiskFault left whole L by t = absurd (false≢true t)
-  put-by answer.Memory left whole L by t = absurd (false≢true t)
-  put-by how left whole L by t = absurd L
+  put-by how left whole L by t = absurd (first_of (assumption L, cc t))
 
 -- ---- a put that is given up
 
@@ -292,21 +280,17 @@ put-job-well : {area : Area} (name bytes : List ℕ) (size : ℕ) (own : Option 
     (MayBeWhole name bytes own area records A → length bytes ≡ size) →
     GivesUnlessMemory (stored_line name size) old new end
 put-job-well name bytes size own records old new end begins disk stores sink (AnswersJob.refused why is synced r) all =
-    absurd (let e : None ≡ Some why = sym begins ∙ is in cc)
+    absurd (cc (sym begins ∙ is))
 put-job-well name bytes size own records old new end begins disk stores sink (AnswersJob.no_memory synced r) all =
     memory-well (stored_line name size) old new end r
 put-job-well name bytes size own records old new end begins disk stores sink (AnswersJob.ended how none runs left by) all =
     elim (put-end (ran_left records (PutJob name bytes) how old new end.heard left) own name bytes how
     left.leaves.by_kind.0 (calm-disk records (PutJob name bytes) how old new end.heard left disk) stores) [
-      | inl same ↦ (let told : EndsWith records (PutJob name bytes) answer.Put old new end =
-          subst (λ h. EndsWith records (PutJob name bytes) h old new end) same by in
-          let L : PutLeaves (ran_left records (PutJob name bytes) how old new end.heard left) own name bytes
-          answer.Put = subst (PutLeaves (ran_left records (PutJob name bytes) how old new end.heard left) own
-          name bytes) same left.leaves.by_kind.0 in
-          subst (λ n. GivesUnlessMemory (stored_line name n) old new end) (all (inl L.0.after))
-          (written-well (stored_line name (length bytes)) old new end told.written sink))
-      | inr same ↦ (let told : EndsWith records (PutJob name bytes) answer.Memory old new end =
-          subst (λ h. EndsWith records (PutJob name bytes) h old new end) same by in
+      | inl same ↦ (subst (λ n. GivesUnlessMemory (stored_line name n) old new end)
+          (all (inl (subst (PutLeaves (ran_left records (PutJob name bytes) how old new end.heard left) own
+          name bytes) same left.leaves.by_kind.0).0.after)) (written-well (stored_line name (length bytes))
+          old new end (subst (λ h. EndsWith records (PutJob name bytes) h old new end) same by).written sink))
+      | inr same ↦ (let told = rw same at by in
           inr (told.status_is, none-written (stored_line name size) old.sink new.sink told.sink))
     ]
 
@@ -319,8 +303,7 @@ no-lt a b l = grind (arith, l)
 short-is : (area : Area) (records : List Record) (name bytes : List ℕ) (own : Option ℕ) →
     length bytes ≤ largest_file →
     refusal_over area records (PutJob name bytes) own ≡ refusal_over area records (PutJob name []) own
-short-is area records name bytes None few = rw (no-lt largest_file (length bytes) few) refl
-short-is area records name bytes (Some p) few = rw (no-lt largest_file (length bytes) few) refl
+short-is area records name bytes _ few = rw (no-lt largest_file (length bytes) few) refl
 
 -- two files that are not too long are refused alike
 pub same-refusal : (area : Area) (records : List Record) (name a b : List ℕ) (own : Option ℕ) →
@@ -337,13 +320,11 @@ never false x rest here there e = there e
 
 empty-never : (area : Area) (records : List Record) (name : List ℕ) (own : Option ℕ) →
     refusal_over area records (PutJob name []) own ≡ Some refusal.TooLong → ⊥
-empty-never area records name None =
-    never _ refusal.BadName _ (λ e. cc) (never _ refusal.TooManyFiles _ (λ e. cc)
-    (never _ refusal.JournalFull None (λ e. cc) (λ e. cc)))
-empty-never area records name (Some p) =
-    never _ refusal.BadName _ (λ e. cc) (never _ refusal.BadProfile _ (λ e. cc)
-    (never _ refusal.OldVersion _ (λ e. cc) (never _ refusal.TooManyFiles _ (λ e. cc)
-    (never _ refusal.JournalFull None (λ e. cc) (λ e. cc)))))
+empty-never area records name None = never _ refusal.BadName _ (λ e. cc)
+    (never _ refusal.TooManyFiles _ (λ e. cc) (never _ refusal.JournalFull None (λ e. cc) (λ e. cc)))
+empty-never area records name (Some p) = never _ refusal.BadName _ (λ e. cc)
+    (never _ refusal.BadProfile _ (λ e. cc) (never _ refusal.OldVersion _ (λ e. cc)
+    (never _ refusal.TooManyFiles _ (λ e. cc) (never _ refusal.JournalFull None (λ e. cc) (λ e. cc)))))
 
 -- none of these is refused for its length
 pub short-never : (area : Area) (records : List Record) (name bytes : List ℕ) (own : Option ℕ) →
@@ -355,15 +336,13 @@ short-never area records name bytes own few is =
 pub known-refusal : (area : Area) (records : List Record) (name bytes : List ℕ) (own : Option ℕ) →
     is_unknown own ≡ false → length bytes ≤ largest_file →
     put_refusal area records name own ≡ refusal_over area records (PutJob name bytes) own
-known-refusal area records name bytes own known few =
-    cond_false (is_unknown own) (Some refusal.BadProfile)
+known-refusal area records name bytes own known few = cond_false (is_unknown own) (Some refusal.BadProfile)
     (refusal_over area records (PutJob name []) own) known
     ∙ same-refusal area records name [] bytes own (omega arith) few
 
 unknown-refusal : (area : Area) (records : List Record) (name : List ℕ) (own : Option ℕ) →
     is_unknown own ≡ true → put_refusal area records name own ≡ Some refusal.BadProfile
-unknown-refusal area records name own unknown =
-    cond_true (is_unknown own) (Some refusal.BadProfile)
+unknown-refusal area records name own unknown = cond_true (is_unknown own) (Some refusal.BadProfile)
     (refusal_over area records (PutJob name []) own) unknown
 
 -- a put that is not refused and meets no fault is done, or finds no memory
@@ -377,10 +356,7 @@ pub put-well : (name bytes : List ℕ) (own : Option ℕ) (records : List Record
     (Rose old.source_faults new.source_faults → ⊥) → (Rose old.sink_faults new.sink_faults → ⊥) →
     GivesUnlessMemory (stored_line name (length bytes)) old new end
 put-well name bytes own records old new end (AnswersPut.unstarted u same) K is begins disk stores source sink =
-    elim (unstarted-known old new end records K u) [
-      | inl (rose, r) ↦ absurd (disk rose)
-      | inr r ↦ memory-well (stored_line name (length bytes)) old new end r
-    ]
+    memory-well (stored_line name (length bytes)) old new end (unstarted-memory K disk u)
 put-well name bytes own records old new end (AnswersPut.source_fault other opened known rose synced taken r) K is begins disk stores source sink =
     absurd (source rose)
 put-well name bytes own records old new end (AnswersPut.bad_profile other opened unknown synced same r) K is begins disk stores source sink =
@@ -445,10 +421,7 @@ pub put-always : (name : List ℕ) (own : Option ℕ) (records : List Record) (o
     (Rose old.source_faults new.source_faults → ⊥) → put_refusal K.opened.area records name own ≡ Some why →
     IsRefused (status_of why) 0 old new end ⊎ IsRefused 70 0 old new end
 put-always name own records old new end why (AnswersPut.unstarted u same) K disk source applies =
-    elim (unstarted-known old new end records K u) [
-      | inl (rose, r) ↦ absurd (disk rose)
-      | inr r ↦ inr r
-    ]
+    inr (unstarted-memory K disk u)
 put-always name own records old new end why (AnswersPut.bad_profile other opened unknown synced same r) K disk source applies =
     inl (subst (λ w. IsRefused (status_of w) 0 old new end)
     (same_value (put_refusal K.opened.area records name own) refusal.BadProfile why
@@ -532,13 +505,10 @@ pub long-put : (name bytes : List ℕ) (own : Option ℕ) (records : List Record
     Rose (provider_at old.providers j).store_faults (provider_at new.providers j).store_faults → ⊥) →
     (Rose old.source_faults new.source_faults → ⊥) → (end.status ≡ 16) ⊎ (end.status ≡ 70)
 long-put name bytes own records old new end (AnswersPut.unstarted u same) K is long taken disk stores source =
-    elim (unstarted-known old new end records K u) [
-      | inl (rose, r) ↦ absurd (disk rose)
-      | inr r ↦ inr r.status_is
-    ]
+    inr (unstarted-memory K disk u).status_is
 long-put name bytes own records old new end (AnswersPut.bad_profile other opened unknown synced same r) K is long taken disk stores source =
-    absurd (let e : None ≡ Some refusal.BadProfile = sym taken
-    ∙ unknown-refusal K.opened.area records name own unknown in cc)
+    absurd (cc (sym taken
+    ∙ unknown-refusal K.opened.area records name own unknown))
 long-put name bytes own records old new end (AnswersPut.source_fault other opened known rose synced read r) K is long taken disk stores source =
     absurd (source rose)
 long-put name bytes own records old new end (AnswersPut.no_memory read r) K is long taken disk stores source =
@@ -546,25 +516,21 @@ long-put name bytes own records old new end (AnswersPut.no_memory read r) K is l
 long-put name bytes own records old new end (AnswersPut.given_up other seen opened known none stops runs left) K is long taken disk stores source =
     inl (given-long _ seen old new end stops source).0
 long-put name bytes own records old new end (AnswersPut.begun other seen opened known read few (AnswersJob.refused why cause synced r) whole one) K is long taken disk stores source =
-    absurd (let e : None ≡ Some why = sym taken ∙ known-both old records other K opened
+    absurd (cc (sym taken ∙ known-both old records other K opened
     (λ a rs. put_refusal a rs name own ≡ Some why)
-    (known-refusal opened.area other name seen own known few ∙ cause) in cc)
+    (known-refusal opened.area other name seen own known few ∙ cause)))
 long-put name bytes own records old new end (AnswersPut.begun other seen opened known read few (AnswersJob.no_memory synced r) whole one) K is long taken disk stores source =
     inr r.status_is
 long-put name bytes own records old new end (AnswersPut.begun other seen opened known read few (AnswersJob.ended how none runs left by) whole one) K is long taken disk stores source =
     elim (put-end (ran_left other (PutJob name seen) how old new end.heard left) own name seen how
     left.leaves.by_kind.0 (calm-disk other (PutJob name seen) how old new end.heard left disk)
     (λ j l. stores j
-    (subst (λ rs. j < (setup_in_effect rs).n) (known-once old records other K opened.read) l))) [
-      | inl same ↦ absurd (let L : PutLeaves (ran_left other
-          (PutJob name seen) how old new end.heard left) own
-          name seen answer.Put = subst (PutLeaves (ran_left other (PutJob name seen) how old new end.heard
-          left) own name seen) same left.leaves.by_kind.0 in
-          let all : length seen ≡ length bytes =
-          ap length (read-all old.source new.source bytes seen is read (whole (inl L.0.after))) in
+    (rw (known-once old records other K opened.read) at l))) [
+      | inl same ↦ absurd (let all = ap length (read-all old.source new.source bytes seen is read
+          (whole (inl (subst (PutLeaves (ran_left other (PutJob name seen) how old new end.heard left) own
+          name seen) same left.leaves.by_kind.0).0.after))) in
           omega (arith, all, few, long))
-      | inr same ↦ inr (let told : EndsWith other (PutJob name seen) answer.Memory old new end =
-          subst (λ h. EndsWith other (PutJob name seen) h old new end) same by in told.status_is)
+      | inr same ↦ inr ((subst (λ h. EndsWith other (PutJob name seen) h old new end) same by).status_is)
     ]
 
 -- ---- drops
@@ -582,9 +548,7 @@ drop-by name records {old} {new} opened answer.Dropped left L by t = record {
   disk = images-have opened.area new.disk left.after left.doubt _ L.0.after L.0.sure left.images;
   gone = L.1.held;
 }
-drop-by name records opened answer.DiskFault left L by t = absurd (false≢true t)
-drop-by name records opened answer.Memory left L by t = absurd (false≢true t)
-drop-by name records opened how left L by t = absurd L
+drop-by name records opened how left L by t = absurd (first_of (assumption L, cc t))
 
 -- a done drop took its file out of effect, and its blocks away but where a count rose
 pub drop-done : (name : List ℕ) (old new : Seen) (end : Ending) → AnswersAlone (DropJob name) old new end →
@@ -618,24 +582,17 @@ audit-by : (records : List Record) {old new : Seen} {end : Ending} (opened : IsO
     AuditGives (ran_left records AuditJob how old new end.heard left) how →
     EndsWith records AuditJob how old new end → tells how ≡ true → IsAudited old new end
 audit-by records {old} {new} {end} opened (answer.Audited number undecided counts) left L by t =
-    (let heard = subst (λ n. HearsRounds
-    (ran_left records AuditJob (answer.Audited number undecided counts) old new end.heard left) n) L.0
-    L.2 in record {
+    (let heard = rw L.0 at L.2 in record {
       records = records;
       undecided = undecided;
       counts = counts;
       opened = opened;
-      told = subst (λ n. IsTold (audit_lines (setup_in_effect records).tolerance n undecided counts) old new
-          end) L.0 by;
+      told = rw L.0 at by;
       disk = images-have opened.area new.disk left.after left.doubt _ L.1.after L.1.sure left.images;
       heard = record { heard = heard.heard; truthful = heard.truthful };
-      counted = subst (λ n. CountsHeard
-          (ran_left records AuditJob (answer.Audited number undecided counts) old new end.heard left) n
-          undecided counts) L.0 L.3;
+      counted = rw L.0 at L.3;
     })
-audit-by records opened answer.DiskFault left L by t = absurd (false≢true t)
-audit-by records opened answer.Memory left L by t = absurd (false≢true t)
-audit-by records opened how left L by t = absurd L
+audit-by records opened how left L by t = absurd (first_of (assumption L, cc t))
 
 -- a done audit told counts that are the verdicts on what it heard
 pub audit-done : (old new : Seen) (end : Ending) → AnswersAlone AuditJob old new end → IsDone end →
@@ -691,7 +648,7 @@ repair-by records {old} {new} {end} opened (answer.Repaired number) left due is_
   due = due;
   opened = opened;
   is_due = is_due;
-  told = subst (λ n. IsTold (repaired_line n) old new end) L.0 by;
+  told = rw L.0 at by;
   disk = images-have opened.area new.disk left.after left.doubt _ L.1.after L.1.sure left.images;
   rewritten = record {
     gave = L.2.gave;
@@ -701,11 +658,7 @@ repair-by records {old} {new} {end} opened (answer.Repaired number) left due is_
     held = L.2.held;
   };
 }
-repair-by records opened (answer.Lost stripe row) left due is_due L by t = absurd (false≢true t)
-repair-by records opened (answer.ProviderFault j) left due is_due L by t = absurd (false≢true t)
-repair-by records opened answer.DiskFault left due is_due L by t = absurd (false≢true t)
-repair-by records opened answer.Memory left due is_due L by t = absurd (false≢true t)
-repair-by records opened how left due is_due L by t = absurd L
+repair-by records opened how left due is_due L by t = absurd (first_of (assumption L, cc t))
 
 -- after a done repair each flagged provider holds the columns of what was fetched, and none is due
 pub repair-done : (old new : Seen) (end : Ending) → AnswersAlone RepairJob old new end → IsDone end →
@@ -755,7 +708,7 @@ upgrade-by records {old} {new} opened begins answer.Upgraded left L by same t = 
   opened = opened;
   was_first = elim (version-either records) [
     | inl one ↦ one
-    | inr two ↦ absurd (let on : (version_of records == 2) ≡ true = eq-eqb (version_of records) 2 two in
+    | inr two ↦ absurd (let on = eq-eqb (version_of records) 2 two in
         let off = none-applies (causes 1 (sight_over opened.area records) ToUpgrade None) begins in
         false≢true (sym off.1.1.0 ∙ on))
   ];
@@ -763,9 +716,7 @@ upgrade-by records {old} {new} opened begins answer.Upgraded left L by same t = 
   disk = images-have opened.area new.disk left.after left.doubt _ L.0.after L.0.sure left.images;
   held = same;
 }
-upgrade-by records opened begins answer.DiskFault left L by same t = absurd (false≢true t)
-upgrade-by records opened begins answer.Memory left L by same t = absurd (false≢true t)
-upgrade-by records opened begins how left L by same t = absurd L
+upgrade-by records opened begins how left L by same t = absurd (first_of (assumption L, cc t))
 
 upgrade-ended-well : {area : Area} (records : List Record) (old new : Seen) (end : Ending) →
     (Rose old.disk_faults new.disk_faults → ⊥) → (Rose old.sink_faults new.sink_faults → ⊥) → (how : Answer)
@@ -892,8 +843,7 @@ put-order name own old new end (AnswersPut.begun records bytes opened known read
 put-order name own old new end (AnswersPut.begun records bytes opened known read few (AnswersJob.no_memory synced r) whole one) disk stores source sink =
     EndsInOrder.no_memory r.status_is
 put-order name own old new end (AnswersPut.begun records bytes opened known read few (AnswersJob.ended how none runs left by) whole one) disk stores source sink =
-    in-order (put_of name own) old new end
-    (zero-or-memory _ old new end
+    in-order (put_of name own) old new end (zero-or-memory _ old new end
     (put-job-well name bytes (length bytes) own records old new end none disk (λ j l. stores j) sink
     (AnswersJob.ended how none runs left by) (λ may. refl)))
 

@@ -80,20 +80,19 @@ part-runs = part-so 2 2 [] idle_provider (store set_up_records) given_up_store
     (refl, refl, refl, refl, begins, (refl, refl), refl) (stands_for started-fit)
 
 pub given-up : Answers (PutUnder held_name) (store set_up_records) given_up_store (ends 14)
-given-up = AnswersPut.given_up set_up_records [] set_up-sure.known.opened refl begins
-    (record {
-      read = [];
-      are_bytes = refl;
-      front = refl;
-      stripes = 0;
-      bytes_are = refl;
-      whole = refl;
-      rest = omega arith;
-      cause = inl (refl, omega arith, omega arith);
-      place = refl;
-      heard = refl;
-      sink = refl;
-    })
+given-up = AnswersPut.given_up set_up_records [] set_up-sure.known.opened refl begins (record {
+  read = [];
+  are_bytes = refl;
+  front = refl;
+  stripes = 0;
+  bytes_are = refl;
+  whole = refl;
+  rest = omega arith;
+  cause = inl (refl, omega arith, omega arith);
+  place = refl;
+  heard = refl;
+  sink = refl;
+})
     part-runs
     (part-left set_up_records held_name [] None (store set_up_records) given_up_store
     set_up-sure.known.opened (refl, refl) (MayName.none refl) refl part-runs)

@@ -52,9 +52,8 @@ known-good s d cells area rs is G enough = record {
 -- known records with another setup's text read are these
 same-good : (s : Setup) (image : List ℕ) (a b : Area) (rs qs : List Record) → IsGood s image a rs →
     StandsActive image b qs → IsGood s image b qs
-same-good s image a b rs qs G stands =
-    (let one = one_meaning image a b rs qs G.stands stands in
-    subst (λ area. IsGood s image area qs) one.0 (subst (IsGood s image a) one.1 G))
+same-good s image a b rs qs G stands = (let one = one_meaning image a b rs qs G.stands stands in
+    (rw one.0 at (subst (IsGood s image a) one.1 G)))
 
 -- a store whose images are all good, and stand for these records, is sure
 pub sure-good : (s : Setup) (d : Seen) (cells : Cells) (area : Area) (rs : List Record) →
@@ -63,17 +62,15 @@ sure-good s d cells area rs is good enough has =
     record { known = known-good s d cells area rs is here enough; images = has }
   where
     here : IsGood s (reads cells) area rs
-    here = (let g : EachImage (Some cells) (MayBeGood s) = subst (AreGood s) is good in
-        let h : EachImage (Some cells) (λ image. StandsActive image area rs) =
-        subst (λ t. EachImage t (λ image. StandsActive image area rs)) is has in
-        let a = g (reads cells) (IsImage-reads cells) in
-        same-good s (reads cells) a.0 area a.1 rs a.2 (h (reads cells) (IsImage-reads cells)))
+    here = (let a = (subst (AreGood s) is good) (reads cells) (IsImage-reads cells) in
+        same-good s (reads cells) a.0 area a.1 rs a.2 ((subst (λ t. EachImage t
+        (λ image. StandsActive image area rs)) is has) (reads cells) (IsImage-reads cells)))
 
 -- ---- the last state of a job
 
 -- records with a setup are not empty
 pub none-up : (rs : List Record) → is_some (setup_of rs) ≡ true → rs ≢ []
-none-up rs up none = false≢true (let e : false ≡ true = sym (ap (λ l. is_some (setup_of l)) none) ∙ up in e)
+none-up rs up none = false≢true (sym (ap (λ l. is_some (setup_of l)) none) ∙ up)
 
 -- what an image of a state stands for
 abbrev pub StandsInState : State → List ℕ → Type 0
@@ -98,7 +95,7 @@ last-good start last L image h = by_stand h
       record {
         some = none-up last.journal up;
         accepted = L.sound.journal.accepted;
-        room = (let r = L.sound.room in omega (arith, r));
+        room = omega (arith, L.sound.room);
         setup = same;
         stands = stands;
       },
@@ -110,7 +107,7 @@ last-good start last L image h = by_stand h
       record {
         some = λ e. cc;
         accepted = (F.in_journal, L.sound.journal.accepted);
-        room = (let r = F.room in omega (arith, r));
+        room = omega (arith, F.room);
         setup = ap setup_or_none (setup-more D.doubt.entry last.journal up F.in_journal) ∙ same;
         stands = D.stands;
       },
@@ -129,16 +126,15 @@ name-byte b h = grind (arith, nat_tests, h)
 
 names-bytes : (name : List ℕ) → list_all is_name_byte name ≡ true → list_all is_byte name ≡ true
 names-bytes [] h = refl
-names-bytes (b ∷ name) h = (let first : is_name_byte b ≡ true = grind (arith, h) in
-    let rest : list_all is_name_byte name ≡ true = grind (arith, h) in
-    let here = name-byte b first in let there = names-bytes name rest in grind (arith, here, there))
+names-bytes (b ∷ name) h = (let here = name-byte b (grind (arith, h)) in
+    let there = names-bytes name (grind (arith, h)) in grind (arith, here, there))
 
 name-bytes : (name : List ℕ) → is_name name ≡ true → AreBytes name
 name-bytes name h = names-bytes name (grind (arith, h))
 
 first-off : (b : Bool) (x : Refusal) (rest : Option Refusal) → cond (not b) (Some x) rest ≡ None → b ≡ true
 first-off true x rest h = refl
-first-off false x rest h = absurd (let e : Some x ≡ None = h in cc)
+first-off false x rest h = absurd (cc h)
 
 -- the words of a put are bytes where its source gives bytes
 abbrev pub HasBytes : Kind → Type 0
@@ -167,13 +163,12 @@ pub ran-good : (records : List Record) (kind : Kind) {own : Option ℕ} (how : A
     RunsAlone opened.area records kind own how old new heard → LeavesGood records old new
 unfolding setup_in
 ran-good records kind how old new heard R spelled named A =
-    (let w : State = opened_state R.area records A.faults old.providers in
+    (let w = opened_state R.area records A.faults old.providers in
     let over = state-over records A.faults old R in
     let ran = A.ran w 1 over in
     let L = last-state w ran.last 1 kind _ how heard over.at_rest spelled named ran.runs in (
       images-good w ran.last new.disk L ran.images,
-      (let a = L.handed in let b = ran.handed.count in let c = over.handed.count in let e = R.enough in
-          omega (arith, a, b, c, e)),
+      (omega (arith, L.handed, ran.handed.count, over.handed.count, R.enough)),
     ))
 
 -- so does a put that was given up
@@ -182,11 +177,10 @@ pub part-good : (records : List Record) (name bytes : List ℕ) (own : Option �
     PartRuns opened.area records name bytes own old new → LeavesGood records old new
 unfolding setup_in
 part-good records name bytes own old new R spelled named A =
-    (let w : State = opened_state R.area records A.faults old.providers in
+    (let w = opened_state R.area records A.faults old.providers in
     let over = state-over records A.faults old R in
     let ran = A.ran w 1 over in
     let L = part-state w ran.last 1 (PutJob name bytes) own _ over.at_rest spelled named ran.runs in (
       images-good w ran.last new.disk L ran.images,
-      (let a = L.handed in let b = ran.handed.count in let c = over.handed.count in let e = R.enough in
-          omega (arith, a, b, c, e)),
+      (omega (arith, L.handed, ran.handed.count, over.handed.count, R.enough)),
     ))

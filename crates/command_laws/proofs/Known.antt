@@ -1,5 +1,5 @@
 -- How a command ends over a disk that tells its records: before its begin, or by its job.
-use Rattle.command_laws.proofs.Words.{◌≡◌, ◌≢◌, ℕ, ◌<◌, ◌≤◌, ◌==◌, ◌⊎◌, Bool, true, false, List, [], ◌∷◌, length, take, Option, None, Some, refl, ap, sym, subst, ◌∙◌, inl, inr, arith, IfSome, append-nil, Rose, told_then, TakesFront, Record, Area, HasNoSetup, Kind, Answer, Refusal, WritesLine, Seen, Ending, IsRefused, sinking, journal_read, IsRead, IsBadStart, IsOpened, Unstarted, setup_in_effect, refusal_over, status_of, AnswersJob, EndsByAnswer, AnswersAlone, IsKnown, GivesUnlessMemory, same_value, is_some-at, read-once, read-set_up, read-good}
+use Rattle.command_laws.proofs.Words.{◌≡◌, ◌≢◌, ℕ, ◌==◌, ◌⊎◌, Bool, true, false, List, [], ◌∷◌, length, take, Option, None, Some, refl, ap, sym, subst, ◌∙◌, inl, inr, arith, append-nil, Rose, told_then, TakesFront, Record, Area, Kind, Answer, Refusal, WritesLine, Seen, Ending, IsRefused, sinking, IsRead, IsOpened, Unstarted, refusal_over, status_of, AnswersJob, EndsByAnswer, AnswersAlone, IsKnown, GivesUnlessMemory, same_value, is_some-at, read-once, read-set_up, read-good}
 use Rattle.std.specs.Prelude.{if◌then◌else◌}
 use Rattle.machine_defs.specs.Answers as answer
 use Rattle.machine_defs.specs.Refusals as refusal
@@ -26,10 +26,8 @@ written-well text old new end (inr (inr cut)) calm = inr cut
 pub written-zero : (text : List ℕ) (old new : Seen) (end : Ending) →
     WritesLine text end.status (sinking old new) → end.status ≡ 0 → new.sink ≡ told_then old.sink text
 written-zero text old new end (inl done) zero = done.1
-written-zero text old new end (inr (inl cut)) zero =
-    absurd (let e : 15 ≡ 0 = sym cut.1 ∙ zero in omega (arith, e))
-written-zero text old new end (inr (inr cut)) zero =
-    absurd (let e : 70 ≡ 0 = sym cut.0 ∙ zero in omega (arith, e))
+written-zero text old new end (inr (inl cut)) zero = absurd (omega (arith, sym cut.1 ∙ zero))
+written-zero text old new end (inr (inr cut)) zero = absurd (omega (arith, sym cut.0 ∙ zero))
 
 -- at any status the sink took at most a front of the line
 pub written-front : (text : List ℕ) (old new : Seen) (end : Ending) →
@@ -48,10 +46,9 @@ written-front text old new end (inr (inr cut)) = cut.1
 -- a known store has one list of records, in one area
 known-so : (old : Seen) (records other : List Record) {area : Area} (K : IsKnown old records) →
     IsRead old.disk area other → (area ≡ K.opened.area) × (other ≡ records)
-known-so old records other {area = area} K R =
-    (let c = is_some-at old.disk K.tells in
-    read-once c.0 area K.opened.area other records (subst (λ d. IsRead d area other) c.1 R)
-    (subst (λ d. IsRead d K.opened.area records) c.1 K.opened.read))
+known-so old records other {area = area} K R = (let c = is_some-at old.disk K.tells in
+    read-once c.0 area K.opened.area other records (rw c.1 at R)
+    (rw c.1 at K.opened.read))
 
 -- a known store has one list of records
 pub known-once : (old : Seen) (records other : List Record) {area : Area} → IsKnown old records →
@@ -61,9 +58,8 @@ known-once old records other K R = (known-so old records other K R).1
 -- what is so of the records that were read, in their area, is so of those that are known
 pub known-both : (old : Seen) (records other : List Record) (K : IsKnown old records) (O : IsOpened old other)
     (P : Area → List Record → Type 0) → P O.area other → P K.opened.area records
-known-both old records other K O P p =
-    (let so = known-so old records other K O.read in
-    subst (λ a. P a records) so.0 (subst (λ rs. P O.area rs) so.1 p))
+known-both old records other K O P p = (let so = known-so old records other K O.read in
+    subst (λ a. P a records) so.0 (rw so.1 at p))
 
 -- a start that reads these records ends before the begin in a fault of the disk alone, or for want of memory
 pub unstarted-known : (old new : Seen) (end : Ending) (records : List Record) → IsKnown old records →
@@ -72,20 +68,25 @@ pub unstarted-known : (old new : Seen) (end : Ending) (records : List Record) �
 unstarted-known old new end records K (Unstarted.disk_fault rose r) = inl (rose, r)
 unstarted-known old new end records K (Unstarted.not_set_up is sync r) =
     absurd (let c = is_some-at old.disk K.tells in
-    read-set_up c.0 K.opened.area records (subst (λ d. IsRead d K.opened.area records) c.1 K.opened.read)
-    (subst (λ d. IfSome d (λ cells. HasNoSetup (journal_read cells))) c.1 is))
+    read-set_up c.0 K.opened.area records (rw c.1 at K.opened.read)
+    (rw c.1 at is))
 unstarted-known old new end records K (Unstarted.bad_journal at is r) =
     absurd (let c = is_some-at old.disk K.tells in
-    let bad : (9 < length (journal_read c.0)) × IsBadStart (journal_read c.0) at =
-    subst (λ d. IfSome d (λ cells. (9 < length (journal_read cells)) × IsBadStart (journal_read cells) at))
-    c.1 is in
-    read-good c.0 at K.opened.area records (subst (λ d. IsRead d K.opened.area records) c.1 K.opened.read)
+    let bad =
+    rw c.1 at is in
+    read-good c.0 at K.opened.area records (rw c.1 at K.opened.read)
     bad.1)
 unstarted-known old new end records K (Unstarted.too_few_providers area other read few synced r) =
     absurd (let e = known-once old records other K read in
-    let enough = subst (λ rs. (setup_in_effect rs).n ≤ length old.providers) (sym e) K.opened.enough in
+    let enough = rw (← e) at K.opened.enough in
     omega (arith, few, enough))
 unstarted-known old new end records K (Unstarted.no_memory r) = inr r
+
+-- with no fault of the disk it ends so for want of memory
+pub unstarted-memory : {old new : Seen} {end : Ending} {records : List Record} → IsKnown old records →
+    (Rose old.disk_faults new.disk_faults → ⊥) → Unstarted old new end → IsRefused 70 0 old new end
+unstarted-memory K disk u =
+    elim (unstarted-known _ _ _ _ K u) [ inl (rose, r) ↦ absurd (disk rose) | inr r ↦ r ]
 
 -- so a command that runs a job runs it over these records, or ended before
 pub alone-known : (kind : Kind) (old new : Seen) (end : Ending) (records : List Record)
@@ -101,28 +102,16 @@ alone-known kind old new end records K (AnswersAlone.begun other opened A) =
 
 -- which refusal a status tells of
 abbrev pub refusal_at : ℕ → Option Refusal
-refusal_at n =
-    if n == 3 then Some refusal.NoSuchName else if n == 6 then Some refusal.RepairDue
-    else if n == 7 then Some refusal.NothingDue
-    else if n == 11 then Some refusal.JournalFull else if n == 16 then Some refusal.TooLong
-    else if n == 17 then Some refusal.BadName
-    else if n == 20 then Some refusal.BadProfile else if n == 23 then Some refusal.OldVersion
-    else if n == 24 then Some refusal.NewVersion else if n == 21 then Some refusal.TooManyFiles
-    else if n == 26 then Some refusal.PackTooLong else None
+refusal_at n = if n == 3 then Some refusal.NoSuchName else if n == 6 then Some refusal.RepairDue else if n
+    == 7 then Some refusal.NothingDue else if n == 11 then Some refusal.JournalFull else if n == 16 then Some
+    refusal.TooLong else if n == 17 then Some refusal.BadName else if n == 20 then Some refusal.BadProfile
+    else if n == 23 then Some refusal.OldVersion else if n == 24 then Some refusal.NewVersion else if n == 21
+    then Some refusal.TooManyFiles else if n == 26 then Some refusal.PackTooLong else None
 
 -- any refusal but of those has the status of no memory, which is no refusal's
 refused-at : (why : Refusal) → (status_of why ≡ 70) ⊎ (refusal_at (status_of why) ≡ Some why)
 refused-at refusal.MustReopen = inl refl
-refused-at refusal.Busy = inl refl
-refused-at refusal.Memory = inl refl
-refused-at refusal.BadSetup = inl refl
-refused-at refusal.DiskFault = inl refl
-refused-at (refusal.BadJournal at) = inl refl
-refused-at refusal.Already = inl refl
-refused-at refusal.NotSetUp = inl refl
-refused-at refusal.TooFewProviders = inl refl
-refused-at refusal.NoSuchJob = inl refl
-refused-at why = inr refl
+refused-at why = search (inl, inr)
 
 status-back : (why : Refusal) → status_of why ≢ 70 → refusal_at (status_of why) ≡ Some why
 status-back why own = elim (refused-at why) [ inl lost ↦ absurd (own lost) | inr is ↦ is ]
@@ -131,7 +120,7 @@ status-back why own = elim (refused-at why) [ inl lost ↦ absurd (own lost) | i
 pub refused-not : (why : Refusal) (n : ℕ) → refusal_at n ≡ None → n ≢ 70 → status_of why ≡ n → ⊥
 refused-not why n none other e = elim (refused-at why) [
   | inl lost ↦ other (sym e ∙ lost)
-  | inr is ↦ (let k : None ≡ Some why = sym none ∙ (ap refusal_at (sym e) ∙ is) in cc)
+  | inr is ↦ (cc (sym none ∙ (ap refusal_at (sym e) ∙ is)))
 ]
 
 -- ---- a job that began
@@ -185,7 +174,7 @@ at-some : (why : Refusal) (end : Ending) → status_of why ≢ 70 → end.status
 at-some why end own e = ap refusal_at e ∙ status-back why own
 
 none-some : (n : ℕ) (why : Refusal) → refusal_at n ≡ None → refusal_at n ≡ Some why → ⊥
-none-some n why none some = (let e : None ≡ Some why = sym none ∙ some in cc)
+none-some n why none some = cc (sym none ∙ some)
 
 -- a job ends with the status of a refusal only where that one is the first that applies
 pub refused-only : (kind : Kind) (own : Option ℕ) {area : Area} (records : List Record) (old new : Seen)
@@ -195,8 +184,8 @@ refused-only kind own records old new end why (AnswersJob.refused other is synce
     elim (refused-at other) [
       | inl lost ↦ absurd (none-some end.status why (ap refusal_at (r.status_is ∙ lost))
           (at-some why end tells e))
-      | inr at ↦ (let both : Some other ≡ Some why = sym (ap refusal_at r.status_is ∙ at)
-          ∙ at-some why end tells e in is ∙ both)
+      | inr at ↦ (is ∙ (sym (ap refusal_at r.status_is ∙ at)
+          ∙ at-some why end tells e))
     ]
 refused-only kind own records old new end why (AnswersJob.no_memory synced r) tells e =
     absurd (none-some end.status why (ap refusal_at r.status_is) (at-some why end tells e))
@@ -210,11 +199,10 @@ pub refused-always : (kind : Kind) (own : Option ℕ) {area : Area} (records : L
     refusal_over area records kind own ≡ Some why → IsRefused (status_of why) 0 old new end ⊎
     IsRefused 70 0 old new end
 refused-always kind own records old new end why (AnswersJob.refused other is synced r) applies =
-    inl (subst (λ w. IsRefused (status_of w) 0 old new end)
-    (same_value (refusal_over _ records kind own) other why is applies) r)
+    inl (rw (same_value (refusal_over _ records kind own) other why is applies) at r)
 refused-always kind own records old new end why (AnswersJob.no_memory synced r) applies = inr r
 refused-always kind own records old new end why (AnswersJob.ended how none runs left by) applies =
-    absurd (let e : None ≡ Some why = sym none ∙ applies in cc)
+    absurd (cc (sym none ∙ applies))
 
 -- ---- and so are the statuses before the begin
 

@@ -1,5 +1,5 @@
 -- The state in which a job ended is sound, and has the setup and the providers that it began with.
-use Rattle.command_laws.proofs.Words.{◌≡◌, ℕ, ◌+◌, true, false, List, length, Option, Some, refl, ap, sym, subst, ◌∙◌, arith, is_some, setup_of, Kind, Job, Action, WriteBody, SyncBody, WriteGate, SyncGate, Store, Work, End, Answer, Step, Ended, IsSpelledKind, Entry, State, Append, setup_in, setup_or_none, chosen, beginning, Acts, now, AreSteps, GoesOnTo, RunsJob, RunsPart, IsSound, IsOpenAtRest, MayName, WalkedAt, events-sound}
+use Rattle.command_laws.proofs.Words.{◌≡◌, ℕ, ◌+◌, true, false, List, length, Option, Some, refl, ap, sym, subst, ◌∙◌, arith, is_some, setup_of, Kind, Job, Action, WriteBody, SyncBody, WriteGate, SyncGate, Store, Work, End, Answer, Step, Ended, IsSpelledKind, Entry, State, Append, setup_in, setup_or_none, chosen, beginning, Acts, now, AreSteps, RunsJob, RunsPart, IsSound, IsOpenAtRest, MayName, WalkedAt, events-sound}
 use Rattle.machine_defs.specs.Answers as answer
 use Rattle.machine_defs.specs.Appends.{Moves}
 use Rattle.lone_laws.proofs.Walk.{walk-begin, walk-last}
@@ -19,8 +19,7 @@ abbrev Stays : State → State → Type 0
 Stays w new = (new.records ≡ w.records) × (new.handed ≡ w.handed)
 
 by-state : (w new left : State) → new ≡ left → left.records ≡ w.records → left.handed ≡ w.handed → Stays w new
-by-state w new left is records handed =
-    (ap (λ (v : State). v.records) is ∙ records, ap (λ (v : State). v.handed) is ∙ handed)
+by-state w new left is records handed = (ap (λ v. v.records) is ∙ records, ap (λ v. v.handed) is ∙ handed)
 
 module _ (w : State) (job : Job) (new : State) where
   moves-stay : (action : Action) (flight : Option Append) (how : Answer) →
@@ -79,8 +78,8 @@ pub last-state : (start new : State) (moment : ℕ) (kind : Kind) (own : Option 
     RunsJob start moment kind own how heard new → IsLast start new
 last-state start new moment kind own how heard O spelled named r =
     (let b = walk-begin moment r.job start r.begun kind own named O spelled r.begins in
-    let g : GoesOnTo r.begun (moment + 1) 1 how heard new =
-    subst (λ n. GoesOnTo r.begun (moment + 1) n how heard new) b.0 r.goes_on in
+    let g =
+    rw b.0 at r.goes_on in
     let last = walk-steps start r.begun kind (chosen (setup_in start) own) (beginning start moment kind own)
     (moment + 1) g.steps O b.1 g.are_steps in
     let a = walk-last start O kind (now r.begun g.steps) last.0 last.1

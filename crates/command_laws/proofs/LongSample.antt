@@ -77,7 +77,6 @@ module _ (source : List ℕ) (are : AreBytes source) (long : length source ≡ l
   pub long-put : Answers (PutUnder held_name) (reading set_up_records source) (reading started_records [])
       (ends 16)
   long-put = AnswersPut.given_up set_up_records bytes (reading-sure source).known.opened refl begins stops
-      long-runs
-      (part-left set_up_records held_name bytes None (reading set_up_records source)
-      (reading started_records [])
-      (reading-sure source).known.opened (refl, are_fit) (MayName.none refl) refl long-runs)
+      long-runs (part-left set_up_records held_name bytes None (reading set_up_records source)
+      (reading started_records []) (reading-sure source).known.opened (refl, are_fit) (MayName.none refl) refl
+      long-runs)

@@ -1,30 +1,29 @@
 -- How packs end, and what they have done where they are done.
-use Rattle.command_laws.proofs.Words.{◌≡◌, ◌≢◌, ℕ, ◌⊎◌, ◌==◌, Bool, true, false, cond, List, Option, None, Some, refl, ap, sym, subst, ◌∙◌, inl, inr, false≢true, eq-eqb, Rose, Provider, Record, Area, other_area, text_length, version_of, setup_of, AreAccepted, AreAlike, packed, Answer, Refusal, PackJournal, Seen, Ending, IsRefused, provider_at, IsOpened, pack_refusal_over, status_of, packed_line, pack_text, EndsByAnswer, IsTold, PackLeaves, PackedAlone, AnswersPack, IsDone, IsKnown, GivesUnlessMemory, EndsInOrder, SameHolds, IsPacked, SameFetches, packed_are, same_value, is_some-at, version-either, second-set_up}
+use Rattle.command_laws.proofs.Words.{◌≡◌, ◌≢◌, ℕ, ◌⊎◌, ◌==◌, Bool, true, false, cond, List, Option, None, Some, refl, ap, sym, subst, ◌∙◌, inl, inr, false≢true, eq-eqb, Rose, Record, Area, other_area, text_length, version_of, setup_of, AreAccepted, AreAlike, packed, Answer, Refusal, PackJournal, Seen, Ending, IsRefused, provider_at, IsOpened, pack_refusal_over, status_of, packed_line, pack_text, EndsByAnswer, IsTold, PackLeaves, PackedAlone, AnswersPack, IsDone, IsKnown, GivesUnlessMemory, EndsInOrder, SameHolds, IsPacked, SameFetches, packed_are, same_value, is_some-at, version-either, second-set_up}
 use Rattle.machine_defs.specs.Answers as answer
-use Rattle.command_laws.proofs.Known.{EndStatus, status-ended, known-both, unstarted-known, none-written, written-well, own-status, told-refusal, ended-so, refusal_at}
+use Rattle.command_laws.proofs.Known.{unstarted-memory, EndStatus, status-ended, known-both, unstarted-known, none-written, written-well, own-status, told-refusal, ended-so, refusal_at}
 use Rattle.command_laws.proofs.JobEnds.{memory-well, in-order, zero-or-memory, tells, done-tells}
 use Rattle.command_laws.proofs.Early.{early-done, early-same, pack-cases}
 
 -- ---- the packed records
 
 first-off : (b : Bool) (x : Refusal) (rest : Option Refusal) → cond b (Some x) rest ≡ None → b ≡ false
-first-off true x rest h = absurd (let e : Some x ≡ None = h in cc)
+first-off true x rest h = absurd (cc h)
 first-off false x rest h = refl
 
 -- a journal that may be packed has its second version
 pub pack-second : (area : Area) (records : List Record) → pack_refusal_over area records ≡ None →
     version_of records ≡ 2
 pack-second area records none = elim (version-either records) [
-  | inl one ↦ absurd (let on : (version_of records == 1) ≡ true = eq-eqb (version_of records) 1 one in
-      let off = first-off (version_of records == 1) _ _ none in false≢true (sym off ∙ on))
+  | inl one ↦ absurd (false≢true (sym (first-off (version_of records == 1) _ _ none) ∙
+      (eq-eqb (version_of records) 1 one)))
   | inr two ↦ two
 ]
 
 -- so its packed records are accepted, and their table is alike
 pub pack-alike : (area : Area) (records : List Record) → AreAccepted records →
     pack_refusal_over area records ≡ None → AreAccepted (packed records) × AreAlike (packed records) records
-pack-alike area records accepted none =
-    (let two = pack-second area records none in
+pack-alike area records accepted none = (let two = pack-second area records none in
     let up = is_some-at (setup_of records) (second-set_up records accepted two) in
     packed_are records accepted up.0 up.1 two)
 
@@ -38,15 +37,12 @@ module _ (records : List Record) (old new : Seen) (end : Ending) (opened : IsOpe
   packed-by (answer.Packed before after) P L by t = record {
     records = records;
     opened = opened;
-    told = subst (λ n. IsTold (packed_line n (text_length (other_area opened.area) (packed records))) old new
-        end) L.0 (subst (λ n. IsTold (packed_line before n) old new end) L.1 by);
+    told = rw L.0 at (subst (λ n. IsTold (packed_line before n) old new end) L.1 by);
     disk = L.2;
     alike = (pack-alike opened.area records opened.read.accepted none).1;
     providers = P.providers;
   }
-  packed-by answer.DiskFault P L by t = absurd (false≢true t)
-  packed-by answer.Memory P L by t = absurd (false≢true t)
-  packed-by how P L by t = absurd L
+  packed-by how P L by t = absurd (first_of (assumption L, cc t))
 
 -- a done pack put the packed records in the place of those before, in the other area
 pub pack-done : (old new : Seen) (end : Ending) → AnswersPack old new end → IsDone end → IsPacked old new end
@@ -66,9 +62,7 @@ well-by : (area : Area) (records : List Record) (old new : Seen) (end : Ending) 
     (Rose old.disk_faults new.disk_faults → ⊥) → (Rose old.sink_faults new.sink_faults → ⊥) →
     GivesUnlessMemory (packed_text area records) old new end
 well-by area records old new end (answer.Packed before after) L by disk sink =
-    (let told : IsTold (packed_text area records) old new end =
-    subst (λ n. IsTold (packed_line n (text_length (other_area area) (packed records))) old new end) L.0
-    (subst (λ n. IsTold (packed_line before n) old new end) L.1 by) in
+    (let told = rw L.0 at (subst (λ n. IsTold (packed_line before n) old new end) L.1 by) in
     written-well (packed_text area records) old new end told.written sink)
 well-by area records old new end answer.DiskFault L by disk sink = absurd (disk L.0)
 well-by area records old new end answer.Memory L by disk sink =
@@ -81,13 +75,9 @@ pub pack-well : (records : List Record) (old new : Seen) (end : Ending) → Answ
     (Rose old.disk_faults new.disk_faults → ⊥) → (Rose old.sink_faults new.sink_faults → ⊥) →
     GivesUnlessMemory (packed_text K.opened.area records) old new end
 pack-well records old new end (AnswersPack.unstarted u) K begins disk sink =
-    elim (unstarted-known old new end records K u) [
-      | inl (rose, r) ↦ absurd (disk rose)
-      | inr r ↦ memory-well (packed_text K.opened.area records) old new end r
-    ]
-pack-well records old new end (AnswersPack.refused other why opened is synced r) K begins disk sink =
-    absurd (let e : None ≡ Some why = sym begins ∙ known-both old records other K opened
-    (λ a rs. pack_refusal_over a rs ≡ Some why) is in cc)
+    memory-well (packed_text K.opened.area records) old new end (unstarted-memory K disk u)
+pack-well records old new end (AnswersPack.refused other why opened is synced r) K begins disk sink = absurd
+    (cc (sym begins ∙ known-both old records other K opened (λ a rs. pack_refusal_over a rs ≡ Some why) is))
 pack-well records old new end (AnswersPack.no_memory other opened synced r) K begins disk sink =
     memory-well (packed_text K.opened.area records) old new end r
 pack-well records old new end (AnswersPack.ended other how opened none heard runs left by) K begins disk sink =
@@ -137,28 +127,23 @@ pub pack-always : (records : List Record) (old new : Seen) (end : Ending) (why :
     AnswersPack old new end → (K : IsKnown old records) →
     (Rose old.disk_faults new.disk_faults → ⊥) → pack_refusal_over K.opened.area records ≡ Some why →
     IsRefused (status_of why) 0 old new end ⊎ IsRefused 70 0 old new end
-pack-always records old new end why (AnswersPack.unstarted u) K disk applies =
-    elim (unstarted-known old new end records K u) [
-      | inl (rose, r) ↦ absurd (disk rose)
-      | inr r ↦ inr r
-    ]
+pack-always records old new end why (AnswersPack.unstarted u) K disk applies = inr (unstarted-memory K disk u)
 pack-always records old new end why (AnswersPack.refused other cause opened is synced r) K disk applies =
-    inl (subst (λ w. IsRefused (status_of w) 0 old new end)
-    (same_value (pack_refusal_over K.opened.area records) cause why
-    (known-both old records other K opened (λ a rs. pack_refusal_over a rs ≡ Some cause) is) applies) r)
+    inl (rw (same_value (pack_refusal_over K.opened.area records) cause why
+    (known-both old records other K opened (λ a rs. pack_refusal_over a rs ≡ Some cause) is) applies) at r)
 pack-always records old new end why (AnswersPack.no_memory other opened synced r) K disk applies = inr r
 pack-always records old new end why (AnswersPack.ended other how opened none heard runs left by) K disk applies =
-    absurd (let e : None ≡ Some why = sym (known-both old records other K opened
-    (λ a rs. pack_refusal_over a rs ≡ None) none) ∙ applies in cc)
+    absurd (cc (sym (known-both old records other K opened
+    (λ a rs. pack_refusal_over a rs ≡ None) none) ∙ applies))
 
 -- ---- what stays as it was
 
 -- a pack leaves what providers hold
 pub pack-holds : (old new : Seen) (end : Ending) → AnswersPack old new end → SameHolds old new
-pack-holds old new end = pack-cases (early-same (λ (p : Provider). p.held))
+pack-holds old new end = pack-cases (early-same (λ p. p.held))
     (λ records how opened none left by j. ap (λ ps. (provider_at ps j).held) left.providers)
 
 -- a pack fetches nothing
 pub pack-fetches : (old new : Seen) (end : Ending) → AnswersPack old new end → SameFetches old new
-pack-fetches old new end = pack-cases (early-same (λ (p : Provider). p.fetches))
+pack-fetches old new end = pack-cases (early-same (λ p. p.fetches))
     (λ records how opened none left by j. ap (λ ps. (provider_at ps j).fetches) left.providers)

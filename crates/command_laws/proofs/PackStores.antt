@@ -1,5 +1,5 @@
 -- The images that a pack leaves are good: each stands for records that a start accepts.
-use Rattle.command_laws.proofs.Words.{◌≡◌, ℕ, ◌≤◌, List, length, None, refl, ap, sym, subst, ◌∙◌, inl, inr, is_some, each_image-mono, Record, other_area, StandsActive, AreAlike, packed, Answer, setup_or_none, IsOpened, setup_in_effect, PackLeaves, PackedAlone, pack_refusal_over, Seen, switched-room, second-set_up}
+use Rattle.command_laws.proofs.Words.{◌≡◌, ℕ, List, None, refl, ap, ◌∙◌, inl, inr, is_some, each_image-mono, Record, other_area, StandsActive, AreAlike, packed, Answer, setup_or_none, IsOpened, setup_in_effect, PackLeaves, PackedAlone, pack_refusal_over, Seen, switched-room, second-set_up}
 use Rattle.machine_defs.specs.Answers as answer
 use Rattle.command_laws.proofs.Knowing.{MayBeGood, AreGood, LeavesGood, none-up}
 use Rattle.command_laws.proofs.PackEnds.{pack-second, pack-alike}
@@ -27,19 +27,18 @@ module _ (records : List Record) (old new : Seen) (opened : IsOpened old records
   -- so is one of the packed records
   good-packed : (image : List ℕ) → StandsActive image (other_area opened.area) (packed records) →
       MayBeGood (setup_in_effect records) image
-  good-packed image stands =
-      (let up = second-set_up records opened.read.accepted
-      (pack-second opened.area records none) in (
-        other_area opened.area,
-        packed records,
-        record {
-          some = none-up (packed records) (ap is_some alike.setup ∙ up);
-          accepted = (pack-alike opened.area records opened.read.accepted none).0;
-          room = switched-room records opened.area opened.read.accepted opened.read.in_grammar;
-          setup = ap setup_or_none alike.setup;
-          stands = stands;
-        },
-      ))
+  good-packed image stands = ((
+    other_area opened.area,
+    packed records,
+    record {
+      some = none-up (packed records) (ap is_some alike.setup ∙ (second-set_up records opened.read.accepted
+          (pack-second opened.area records none)));
+      accepted = (pack-alike opened.area records opened.read.accepted none).0;
+      room = switched-room records opened.area opened.read.accepted opened.read.in_grammar;
+      setup = ap setup_or_none alike.setup;
+      stands = stands;
+    },
+  ))
 
   good-by : (how : Answer) → PackLeaves opened.area records how old new →
       AreGood (setup_in_effect records) new.disk
@@ -51,7 +50,4 @@ module _ (records : List Record) (old new : Seen) (opened : IsOpened old records
 
   -- a pack that ran alone leaves only good images, and as many providers
   pub pack-good : (how : Answer) → PackedAlone opened.area records how old new → LeavesGood records old new
-  pack-good how P = (
-    good-by how P.leaves,
-    subst (λ ps. (setup_in_effect records).n ≤ length ps) (sym P.providers) opened.enough,
-  )
+  pack-good how P = (good-by how P.leaves, (rw (← P.providers) at opened.enough))

@@ -32,21 +32,14 @@ module _ (name bytes : List ℕ) (records : List Record) (due : Due) (spoilt : �
   Before image = StandsFor image records
 
   not-before : EachImage new.disk Before → ⊥
-  not-before h =
-      (let c = next-image new next (tells-back new next N F.tells) N in
-      let g : StandsFor (reads c.0) records = c.2 Before h in
-      let looked : (9 < length (reads c.0)) × StandsActive (journal_read c.0) F.opened.area
-      (after_repair records due) =
-      subst (λ d. IfSome d (λ cells. (9 < length (reads cells)) ×
-      StandsActive (journal_read cells) F.opened.area (after_repair records due))) c.1
-      F.opened.read.reads_are in
-      let same = one_list (reads c.0) records (after_repair records due) g (
+  not-before h = (let c = next-image new next (tells-back new next N F.tells) N in
+      let same = one_list (reads c.0) records (after_repair records due) (c.2 Before h) (
         F.opened.area,
         active-front largest_journal (reads c.0) F.opened.area (after_repair records due)
-            looked.1,
+            (subst (λ d. IfSome d (λ cells. (9 < length (reads cells)) × StandsActive (journal_read cells)
+            F.opened.area (after_repair records due))) c.1 F.opened.read.reads_are).1,
       ) in
-      let size = ap length same in
-      omega (arith, size))
+      omega (arith, ap length same))
 
   refused-not : (status at : ℕ) → IsRefused status at old new end → ⊥
   refused-not status at r = (let T = sure-refused status at records old new end r S in
@@ -72,7 +65,7 @@ module _ (name bytes : List ℕ) (records : List Record) (due : Due) (spoilt : �
     }
       where
         fewer : bad_seen records old new H.file bytes ≤ (setup_in_effect records).b
-        fewer = (let b = bad-few name bytes records spoilt old new H steady in omega (arith, b, few))
+        fewer = omega (arith, bad-few name bytes records spoilt old new H steady, few)
 
         right : (j : ℕ) → j < (setup_in_effect records).n →
             (spoilt j && not (is_flagged (setup_in_effect records).tolerance due.counts j)) ≡ false →
@@ -81,16 +74,13 @@ module _ (name bytes : List ℕ) (records : List Record) (due : Due) (spoilt : �
         right j below clean =
             elim (cases_Bool (is_flagged (setup_in_effect records).tolerance due.counts j)) [
               | inl flagged ↦ columns-right (setup_in_effect records) H.file bytes j
-                  (provider_at new.providers j).held H.size
-                  (goes-tells _ (provider_at old.providers j).held (provider_at new.providers j).held
-                  (tells j below flagged) (W.held j below))
+                  (provider_at new.providers j).held H.size (goes-tells _ (provider_at old.providers j).held
+                  (provider_at new.providers j).held (tells j below flagged) (W.held j below))
                   (λ stripe within. holds-right x (shape-at old records S.known.opened) (flags x due) W name
-                  H.file
-                  bytes
-                  H.in_effect H.size fewer S.known.opened.read.accepted stripe within j below flagged)
+                  H.file bytes H.in_effect H.size fewer S.known.opened.read.accepted stripe within j below
+                  flagged)
               | inr free ↦ wrong-same (object_in_effect records H.file) bytes j
-                  (provider_at old.providers j).held
-                  (provider_at new.providers j).held
+                  (provider_at old.providers j).held (provider_at new.providers j).held
                   (flag-off H.file.id (is_flagged (setup_in_effect records).tolerance due.counts j) _
                   (provider_at old.providers j).held (provider_at new.providers j).held free (W.held j below))
                   (H.right j below (and-off (spoilt j)
@@ -102,7 +92,7 @@ module _ (name bytes : List ℕ) (records : List Record) (due : Due) (spoilt : �
         x.after ≡ records
     none-done [] entry rest parts after = after
     none-done (r ∷ done) entry rest parts after =
-        absurd (let e = ap length parts in let a = length-append done (entry ∷ rest) in omega (arith, e, a))
+        absurd (omega (arith, ap length parts, length-append done (entry ∷ rest)))
 
     by-answer : (h : Answer) → RepairGives x due h → Mended
     by-answer (answer.Repaired number) L = whole L.2
@@ -119,5 +109,4 @@ module _ (name bytes : List ℕ) (records : List Record) (due : Due) (spoilt : �
       let here = known-both old records rs S.known opened
       (λ a l. LeftAlone a l RepairJob None how old new end.heard) left in
       let L = here.leaves.by_kind.0 in by-answer S.known.opened.area how here how
-      (subst (λ (d : Due). RepairGives (ran_left records RepairJob how old new end.heard here) d how)
-      (same_value (due_of records) L.due due L.is_due is_due) L.gives))
+      (rw (same_value (due_of records) L.due due L.is_due is_due) at L.gives))

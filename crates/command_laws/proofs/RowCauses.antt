@@ -49,7 +49,7 @@ module _ (n l b : ℕ) (seen : List (Option ℕ)) (old new : Seen) (end : Ending
     | inl l ↦ l
     | inr l ↦ absurd (false≢true (sym (ap (λ k. not (k == 15)) is)
         ∙ none-else (λ k. not (k == 15)) refl refl refl refl (λ e rose. absurd
-        (let more = rose below in omega (arith, more, l)))))
+        (omega (arith, rose below, l)))))
   ]
 
   -- a row ends with a status of a fault only where the sink's count rose

@@ -1,5 +1,5 @@
 -- Stores with no file or one empty file, and commands over them that run no job.
-use Rattle.command_laws.proofs.Words.{◌≡◌, ℕ, ◌<◌, ◌≤◌, false, List, [], None, Some, Option, refl, ap, sym, subst, ◌∙◌, inl, inr, arith, cases_Bool, is_wrong, stripes, Cells, firm, synced, Rose, last_count, Record, text, File, files_of, file_as, is_start_of, A, Kind, Refusal, object_of, IsResynced, ListAll, PutAt, PackJournal, list_lines, IsOpened, setup_in_effect, AnswersPack, refusal_over, pack_refusal_over, status_of, Seen, IsRefused, IsSynced, SameSource, NoCountFalls, provider_at, AnswersJob, AnswersAlone, AnswersList, AnswersPut, Answers, AreSafe, IsSure, HasRightFile, is_wrong_at, store, small_setup, idle_providers, held_name, held_file, set_up_records, held_records, started_records, upgraded_records, own_records, audited_records, due_records, repaired_records, scrubbed_store, with_sink, ends, bad_seen, reads-firm, cond_true, cond_false, each-not-wrong, always, four}
+use Rattle.command_laws.proofs.Words.{◌≡◌, ℕ, ◌<◌, ◌≤◌, false, List, [], None, Some, Option, refl, ap, sym, subst, ◌∙◌, inl, inr, arith, cases_Bool, is_wrong, stripes, Cells, firm, synced, Rose, last_count, Record, text, files_of, file_as, is_start_of, A, Kind, Refusal, object_of, IsResynced, ListAll, PutAt, PackJournal, list_lines, IsOpened, setup_in_effect, AnswersPack, refusal_over, pack_refusal_over, status_of, Seen, IsRefused, IsSynced, SameSource, NoCountFalls, provider_at, AnswersJob, AnswersAlone, AnswersList, AnswersPut, Answers, AreSafe, IsSure, HasRightFile, is_wrong_at, store, small_setup, idle_providers, held_name, held_file, set_up_records, held_records, started_records, upgraded_records, own_records, audited_records, due_records, repaired_records, scrubbed_store, with_sink, ends, bad_seen, reads-firm, cond_true, cond_false, each-not-wrong, always, four}
 use Rattle.device_defs.specs.Told.{Goes}
 use Rattle.machine_defs.specs.Refusals as refusal
 use Rattle.command_laws.proofs.FilesStay.{bad-few}
@@ -82,7 +82,7 @@ held-file = record {
 
 -- a count that stays, below its last value, did not rise
 pub never-rises : (n : ℕ) → n < last_count → Rose n n → ⊥
-never-rises n low rose = (let r = rose low in omega (arith, r))
+never-rises n low rose = omega (arith, rose low)
 
 never : Rose 0 0 → ⊥
 never = never-rises 0 (omega arith)
@@ -91,8 +91,8 @@ never = never-rises 0 (omega arith)
 pub none-bad : bad_seen held_records (store held_records) (store held_records) held_file
     [] ≤ (setup_in_effect held_records).b
 unfolding held-file
-none-bad = (let b = bad-few held_name [] held_records (λ j. false) (store held_records)
-    (store held_records) held-file (λ j below clean rose. no-rise j below rose) in within _ _ b (omega arith))
+none-bad = (within _ _ (bad-few held_name [] held_records (λ j. false) (store held_records)
+    (store held_records) held-file (λ j below clean rose. no-rise j below rose)) (omega arith))
   where
     within : (a n : ℕ) → a ≤ n → n ≤ 1 → a ≤ 1
     within a n l m = omega (arith, l, m)
@@ -107,7 +107,7 @@ all-safe name file is = elim (cases_Bool (is_start_of name (Some held_name))) [
   | inl t ↦ (let e : Some (file_as name 1 0 0) ≡ Some file =
       sym (cond_true (is_start_of name (Some held_name)) (Some (file_as name 1 0 0)) None t) ∙ is in
       let f : file_as name 1 0 0 ≡ file = cc in
-      subst (λ (g : File). (0 ≡ g.size) × (bad_seen held_records (store held_records) scrubbed_store g []
+      subst (λ g. (0 ≡ g.size) × (bad_seen held_records (store held_records) scrubbed_store g []
       ≤ (setup_in_effect held_records).b)) f (refl, none-bad))
   | inr n ↦ absurd (let e : None ≡ Some file =
       sym (cond_false (is_start_of name (Some held_name)) (Some (file_as name 1 0 0)) None n) ∙ is in cc)
@@ -166,21 +166,19 @@ old-refused = AnswersPut.begun set_up_records [] set_up-sure.known.opened refl
 -- and so is one with a profile that there is none of
 pub unknown-refused : Answers (PutAt held_name 5) (store set_up_records) (store set_up_records) (ends 20)
 unknown-refused = AnswersPut.bad_profile set_up_records set_up-sure.known.opened refl
-    (same-disk set_up_records)
-    (refl, refl) (quiet refl refl refl (λ e. refl))
+    (same-disk set_up_records) (refl, refl) (quiet refl refl refl (λ e. refl))
 
 -- a list of the store with the empty file is done
 pub listed : Answers ListAll (store held_records)
     (with_sink (store held_records) (list_lines (files_of held_records))) (ends 0)
 listed = (
-  AnswersList.listed held_records held-sure.known.opened
-      (record {
-        written = inl (refl, refl);
-        place = refl;
-        heard = refl;
-        disk = same-disk held_records;
-        providers = refl;
-      }),
+  AnswersList.listed held_records held-sure.known.opened (record {
+    written = inl (refl, refl);
+    place = refl;
+    heard = refl;
+    disk = same-disk held_records;
+    providers = refl;
+  }),
   (refl, refl),
 )
 

@@ -1,11 +1,10 @@
 -- How scrubs end, and what they have done where they are done.
 use Rattle.command_laws.proofs.Words.{◌≡◌, ℕ, ◌<◌, ◌⊎◌, List, [], Option, None, Some, refl, sym, subst, inl, inr, option_map, Cells, reads, synced, Rose, EachImage, Record, largest_journal, Area, StandsActive, Answer, ScrubAll, Seen, Ending, IsSynced, provider_at, IsOpened, setup_in_effect, scrub_text, Ran, ran_alone, LosesAtPlace, EndsByAnswer, everyone, ScrubGives, ScrubbedAlone, AnswersScrub, IsRead, IsDone, IsKnown, EndsInOrder, AreSafe, IsScrubbed, ran_to, FailsToScrub, LosesScrub, image-firm, active-front, lost-none}
 use Rattle.machine_defs.specs.Answers as answer
-use Rattle.command_laws.proofs.Known.{known-once, unstarted-known, written-well}
+use Rattle.command_laws.proofs.Known.{unstarted-memory, known-once, written-well}
 use Rattle.command_laws.proofs.GetEnds.{shape-at}
 use Rattle.command_laws.proofs.JobEnds.{in-order, zero-or-memory, fits, tells, ends-at, done-tells}
 use Rattle.command_laws.proofs.Early.{early-done, early-not, scrub-cases}
-use Rattle.std.proofs.lemmas.Bool.{false≢true}
 use Rattle.std.proofs.Common.{true}
 
 -- what a scrub left, as it is seen
@@ -18,10 +17,9 @@ pub synced-has : (area : Area) (records : List Record) (a b : Option Cells) → 
     IsRead a area records → EachImage b (λ image. StandsActive image area records)
 synced-has area records None b is R =
     subst (λ d. EachImage d (λ image. StandsActive image area records)) (sym is) tt
-synced-has area records (Some c) b is R =
-    subst (λ d. EachImage d (λ image. StandsActive image area records)) (sym is)
-    (λ image of. subst (λ bytes. StandsActive bytes area records) (sym (image-firm (reads c) image of))
-    (active-front largest_journal (reads c) area records R.reads_are.1))
+synced-has area records (Some c) b is R = subst (λ d. EachImage d (λ image. StandsActive image area records))
+    (sym is) (λ image of. subst (λ bytes. StandsActive bytes area records)
+    (sym (image-firm (reads c) image of)) (active-front largest_journal (reads c) area records R.reads_are.1))
 
 module _ (records : List Record) (old new : Seen) (end : Ending) (opened : IsOpened old records)
     (sync : IsSynced old new) where
@@ -50,10 +48,7 @@ module _ (records : List Record) (old new : Seen) (end : Ending) (opened : IsOpe
       held = L.held;
     };
   }
-  scrubbed-by (answer.Lost stripe row) left L by t = absurd (false≢true t)
-  scrubbed-by (answer.ProviderFault j) left L by t = absurd (false≢true t)
-  scrubbed-by answer.Memory left L by t = absurd (false≢true t)
-  scrubbed-by how left L by t = absurd L
+  scrubbed-by how left L by t = absurd (first_of (assumption L, cc t))
 
   -- ---- a store that failed, and a lost row
 
@@ -64,9 +59,8 @@ module _ (records : List Record) (old new : Seen) (end : Ending) (opened : IsOpe
       let P = S.part in record {
         records = records;
         opened = opened;
-        provider = subst (λ k. k < (setup_in_effect records).n) (sym by.place) L.0;
-        rose = subst (λ k. Rose (provider_at old.providers k).store_faults
-            (provider_at new.providers k).store_faults) (sym by.place) L.1;
+        provider = rw (← by.place) at L.0;
+        rose = rw (← by.place) at L.1;
         sink = by.sink;
         disk = synced-has opened.area records old.disk new.disk sync opened.read;
         part = record {
@@ -77,10 +71,7 @@ module _ (records : List Record) (old new : Seen) (end : Ending) (opened : IsOpe
           part = record { parts = P.parts; truth = P.truth; gives = P.gives; held = P.held };
         };
       })
-  fails-by (answer.Scrubbed stripes symbols blocks) left L by t = absurd (false≢true t)
-  fails-by (answer.Lost stripe row) left L by t = absurd (false≢true t)
-  fails-by answer.Memory left L by t = absurd (false≢true t)
-  fails-by how left L by t = absurd L
+  fails-by how left L by t = absurd (first_of (assumption L, cc t))
 
   loses-by : (how : Answer) (left : ScrubbedAlone records how old new) →
       ScrubGives (scrub_left records how old new left) how →
@@ -104,10 +95,7 @@ module _ (records : List Record) (old new : Seen) (end : Ending) (opened : IsOpe
     sink = by.sink;
     disk = synced-has opened.area records old.disk new.disk sync opened.read;
   })
-  loses-by (answer.Scrubbed stripes symbols blocks) left L by t = absurd (false≢true t)
-  loses-by (answer.ProviderFault j) left L by t = absurd (false≢true t)
-  loses-by answer.Memory left L by t = absurd (false≢true t)
-  loses-by how left L by t = absurd L
+  loses-by how left L by t = absurd (first_of (assumption L, cc t))
 
   -- ---- which end it comes to
 
@@ -186,13 +174,10 @@ pub scrub-well : (records : List Record) (old new : Seen) (end : Ending) (bytes 
     (Rose old.sink_faults new.sink_faults → ⊥) → AreSafe records old new bytes →
     (end.status ≡ 0) ⊎ (end.status ≡ 70)
 scrub-well records old new end bytes (AnswersScrub.unstarted u) K disk stores sink safe =
-    elim (unstarted-known old new end records K u) [
-      | inl (rose, r) ↦ absurd (disk rose)
-      | inr r ↦ inr r.status_is
-    ]
+    inr (unstarted-memory K disk u).status_is
 scrub-well records old new end bytes (AnswersScrub.no_memory other opened sync r) K disk stores sink safe =
     inr r.status_is
 scrub-well records old new end bytes (AnswersScrub.ended other how opened sync heard runs left by) K disk stores sink safe =
     (let same = known-once old records other K opened.read in
-    let here : ScrubbedAlone records how old new = subst (λ rs. ScrubbedAlone rs how old new) same left in
+    let here = rw same at left in
     well-by records old new end K.opened sync bytes how here here.leaves.gives by stores sink safe)

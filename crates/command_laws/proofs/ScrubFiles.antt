@@ -7,7 +7,7 @@ use Rattle.command_laws.proofs.Known.{known-once}
 use Rattle.command_laws.proofs.GetEnds.{shape-at}
 use Rattle.command_laws.proofs.Anew.{all-in, listed-in, right-column, holds-right}
 use Rattle.command_laws.proofs.ScrubEnds.{scrub_left, scrub-done}
-use Rattle.command_laws.proofs.FilesStay.{bad-few}
+use Rattle.command_laws.proofs.FilesStay.{DoTell, bad-few}
 use Rattle.command_laws.proofs.FilesKept.{refused-has, goes-tells, columns-right}
 use Rattle.command_laws.proofs.Early.{scrub-cases}
 
@@ -27,9 +27,8 @@ pub scrub-right : (name bytes : List ℕ) (records : List Record) (file : File) 
     HoldsFile records new bytes file j
 scrub-right name bytes records file j old new end A K done in_effect size few below =
     (let P = scrub-done old new end A done in
-    let same : P.records ≡ records = known-once old records P.records K P.opened.read in
-    subst (λ rs. file_of rs name ≡ Some file → bad_seen rs old new file bytes ≤ (setup_in_effect rs).b →
-    j < (setup_in_effect rs).n → HoldsFile rs new bytes file j) same (by-records P) in_effect few below)
+    let same = known-once old records P.records K P.opened.read in
+    (rw same at (by-records P)) in_effect few below)
   where
     by-records : (P : IsScrubbed old new end) → file_of P.records name ≡ Some file →
         bad_seen P.records old new file bytes ≤ (setup_in_effect P.records).b →
@@ -43,29 +42,26 @@ scrub-right name bytes records file j old new end A K done in_effect size few be
 done-tells : (records : List Record) (j : ℕ) (old new : Seen) (end : Ending) → AnswersScrub old new end →
     IsKnown old records → IsDone end → j < (setup_in_effect records).n →
     is_some (provider_at old.providers j).held ≡ true → is_some (provider_at new.providers j).held ≡ true
-done-tells records j old new end A K done below tells =
-    (let P = scrub-done old new end A done in
-    let same : P.records ≡ records = known-once old records P.records K P.opened.read in
+done-tells records j old new end A K done below tells = (let P = scrub-done old new end A done in
     goes-tells _ (provider_at old.providers j).held (provider_at new.providers j).held tells
-    (P.swept.held j (subst (λ rs. j < (setup_in_effect rs).n) (sym same) below)))
+    (P.swept.held j (subst (λ rs. j < (setup_in_effect rs).n) (sym
+    (known-once old records P.records K P.opened.read)) below)))
 
 -- after a done scrub a right file is right on each provider that tells, where few are spoilt
 pub scrub-has : (name bytes : List ℕ) (records : List Record) (spoilt untold : ℕ → Bool) (old new : Seen)
     (end : Ending) → AnswersScrub old new end → IsDone end → IsKnown old records →
     HasRightFile old records name bytes spoilt → IsSteady (setup_in_effect records).n spoilt old new →
     spoilt_below (setup_in_effect records).n spoilt ≤ (setup_in_effect records).b →
-    ((j : ℕ) → j < (setup_in_effect records).n → untold j ≡ false →
-    is_some (provider_at old.providers j).held ≡ true) → HasRightFile new records name bytes untold
+    DoTell (setup_in_effect records).n untold old → HasRightFile new records name bytes untold
 scrub-has name bytes records spoilt untold old new end A done K H steady few tells = record {
   file = H.file;
   in_effect = H.in_effect;
   are_bytes = H.are_bytes;
   size = H.size;
   right = λ j below clean. columns-right (setup_in_effect records) H.file bytes j
-      (provider_at new.providers j).held H.size
-      (done-tells records j old new end A K done below (tells j below clean))
-      (scrub-right name bytes records H.file j old new end A K done H.in_effect H.size
-      (let b = bad-few name bytes records spoilt old new H steady in omega (arith, b, few)) below);
+      (provider_at new.providers j).held H.size (done-tells records j old new end A K done below
+      (tells j below clean)) (scrub-right name bytes records H.file j old new end A K done H.in_effect H.size
+      (omega (arith, bad-few name bytes records spoilt old new H steady, few)) below);
 }
 
 -- ---- whatever comes of a scrub
@@ -81,9 +77,9 @@ find-place [] z = inr (λ i. i)
 find-place (x ∷ xs) z = elim (cases_eq z.object x.object) [
   | inl o ↦ elim (cases_eq z.stripe x.stripe) [
     | inl s ↦ inl (inl (λ i. record { object = o i; stripe = s i }))
-    | inr differ ↦ in-rest (λ e. differ (ap (λ (p : Place). p.stripe) e)) (find-place xs z)
+    | inr differ ↦ in-rest (λ e. differ (ap (λ p. p.stripe) e)) (find-place xs z)
   ]
-  | inr differ ↦ in-rest (λ e. differ (ap (λ (p : Place). p.object) e)) (find-place xs z)
+  | inr differ ↦ in-rest (λ e. differ (ap (λ p. p.object) e)) (find-place xs z)
 ]
   where
     in-rest : (z ≡ x → ⊥) → In z xs ⊎ (In z xs → ⊥) → In z (x ∷ xs) ⊎ (In z (x ∷ xs) → ⊥)
@@ -104,7 +100,7 @@ module _ (name bytes : List ℕ) (records : List Record) (spoilt : ℕ → Bool)
     (steady : IsSteady (setup_in_effect records).n spoilt old new)
     (few : spoilt_below (setup_in_effect records).n spoilt ≤ (setup_in_effect records).b) where
   fewer : bad_seen records old new H.file bytes ≤ (setup_in_effect records).b
-  fewer = (let b = bad-few name bytes records spoilt old new H steady in omega (arith, b, few))
+  fewer = omega (arith, bad-few name bytes records spoilt old new H steady, few)
 
   abbrev o : Object
   o = object_in_effect records H.file
@@ -125,9 +121,7 @@ module _ (name bytes : List ℕ) (records : List Record) (spoilt : ℕ → Bool)
           place = record { object = H.file.id; stripe = stripe }
 
           before : is_wrong_block o bytes j stripe (a H.file.id stripe) ≡ false
-          before = not-wrong-each o bytes j (a H.file.id) right stripe
-              (subst (λ n. stripe < stripes_of (profiled (setup_in_effect records) H.file.profile) n)
-              (sym H.size) within)
+          before = not-wrong-each o bytes j (a H.file.id) right stripe (rw (← H.size) at within)
 
           by-place : In place done ⊎ (In place done → ⊥) →
               is_wrong_block o bytes j stripe (b H.file.id stripe) ≡ false
@@ -151,8 +145,7 @@ module _ (name bytes : List ℕ) (records : List Record) (spoilt : ℕ → Bool)
       still-right j None b g right = absurd (false≢true (sym right))
       still-right j (Some a) None g right = absurd g
       still-right j (Some a) (Some b) g right = each-not-wrong o bytes j (b H.file.id)
-          (λ t l. not-wrong j a b g right t
-          (subst (λ n. t < stripes_of (profiled (setup_in_effect records) H.file.profile) n) H.size l))
+          (λ t l. not-wrong j a b g right t (rw H.size at l))
 
       part-has : HasRightFile new records name bytes spoilt
       part-has = record {
@@ -165,14 +158,13 @@ module _ (name bytes : List ℕ) (records : List Record) (spoilt : ℕ → Bool)
       }
 
     by-answer : (h : Answer) → ScrubGives x h → HasRightFile new records name bytes spoilt
-    by-answer (answer.Scrubbed stripes symbols blocks) L = part-has (places_of x) [] L.gave L.rows
-        (record {
-          parts = sym (append-nil (places_of x));
-          truth = L.truth;
-          gives = L.gives;
-          held = λ j below. goes-partly (object_numbered x) L.rows (places_of x) j
-              (provider_at old.providers j).held (provider_at new.providers j).held (L.held j below);
-        })
+    by-answer (answer.Scrubbed stripes symbols blocks) L = part-has (places_of x) [] L.gave L.rows (record {
+      parts = sym (append-nil (places_of x));
+      truth = L.truth;
+      gives = L.gives;
+      held = λ j below. goes-partly (object_numbered x) L.rows (places_of x) j
+          (provider_at old.providers j).held (provider_at new.providers j).held (L.held j below);
+    })
     by-answer (answer.Lost stripe row) L = part-has L.done (L.place ∷ L.rest) L.gave L.symbols L.part
     by-answer (answer.ProviderFault j) L = part-has L.2.done L.2.rest L.2.gave L.2.symbols L.2.part
     by-answer answer.Memory L = part-has L.done L.rest L.gave L.symbols L.part
@@ -180,8 +172,7 @@ module _ (name bytes : List ℕ) (records : List Record) (spoilt : ℕ → Bool)
 
   -- a right file stays so over a scrub, whatever comes of it, where few are spoilt
   pub scrub-keeps : AnswersScrub old new end → HasRightFile new records name bytes spoilt
-  scrub-keeps =
-      scrub-cases (λ E. refused-has E.status E.at name bytes records spoilt old new end E.refused H)
+  scrub-keeps = scrub-cases (λ E. refused-has E.status E.at name bytes records spoilt old new end E.refused H)
       (λ other how opened sync left by. let same = known-once old records other K opened.read in
-      let here : ScrubbedAlone records how old new = subst (λ rs. ScrubbedAlone rs how old new) same left in
+      let here = rw same at left in
       by-answer how here how here.leaves.gives)

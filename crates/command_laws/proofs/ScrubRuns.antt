@@ -1,5 +1,5 @@
 -- A scrub leaves how many providers are handed in.
-use Rattle.command_laws.proofs.Words.{◌≡◌, ℕ, ◌+◌, ◌==◌, Bool, true, false, List, [], ◌∷◌, length, Option, None, Some, refl, ap, sym, subst, ◌∙◌, Record, Answer, Outcome, More, Ended, job_of, number_alone, Moment, now, State, Alone, StepsJob, StepsMine, StepsOne, StepsOpen, Steps, AreSteps, IsOpened, RunsScrub, RanScrub, ScrubsAlone, Seen, opened_state, state-over}
+use Rattle.command_laws.proofs.Words.{◌≡◌, ℕ, ◌+◌, ◌==◌, Bool, true, false, List, [], ◌∷◌, length, Option, None, Some, refl, ap, sym, subst, ◌∙◌, Record, Answer, Outcome, More, Ended, job_of, number_alone, Moment, now, State, Alone, StepsJob, StepsMine, StepsOne, StepsOpen, Steps, AreSteps, IsOpened, RunsScrub, ScrubsAlone, Seen, opened_state, state-over}
 use Rattle.machine_defs.proofs.Asides.{steps_aside}
 
 -- a step went on, or ended
@@ -59,20 +59,16 @@ walk-stays w moment job (m ∷ ms) none (event, outcome, happens, rest) =
 -- and over a whole scrub
 pub run-stays : (w : State) (moment : ℕ) (how : Answer) (new : State) → w.jobs ≡ [] →
     RunsScrub w moment how new → new.handed ≡ w.handed
-run-stays w moment how new none R =
-    (let begun = R.begins.3 in
-    let jobs : R.begun.jobs ≡ [] = ap (λ (v : State). v.jobs) begun ∙ none in
-    let handed : R.begun.handed ≡ w.handed = ap (λ (v : State). v.handed) begun in
+run-stays w moment how new none R = (let begun = R.begins.3 in
+    let jobs = ap (λ v. v.jobs) begun ∙ none in
     let walk = walk-stays R.begun (moment + 1) R.job R.goes_on.steps jobs R.goes_on.are_steps in
-    let last = steps-stay (now R.begun R.goes_on.steps) new R.job (Ended how) tt (walk.0 ∙ jobs)
-    (now R.begun R.goes_on.steps).is_open R.goes_on.ends in
-    last.1 ∙ (walk.1 ∙ handed))
+    (steps-stay (now R.begun R.goes_on.steps) new R.job (Ended how) tt (walk.0 ∙ jobs)
+    (now R.begun R.goes_on.steps).is_open R.goes_on.ends).1 ∙ (walk.1 ∙ (ap (λ (v : State). v.handed) begun)))
 
 -- after a scrub that ran alone as many providers are handed in
 pub scrub-handed : (records : List Record) (how : Answer) (old new : Seen) → (opened : IsOpened old records) →
     ScrubsAlone opened.area records how old new → length new.providers ≡ length old.providers
-scrub-handed records how old new O A =
-    (let w : State = opened_state O.area records A.faults old.providers in
+scrub-handed records how old new O A = (let w = opened_state O.area records A.faults old.providers in
     let V = state-over records A.faults old O in
-    let ran : RanScrub records how old new A.faults w 1 = A.ran w 1 V in
+    let ran = A.ran w 1 V in
     sym ran.handed.count ∙ (run-stays w 1 how ran.last V.at_rest.rest.idle.0 ran.runs ∙ V.handed.count))

@@ -1,5 +1,5 @@
 -- The words of a command are text, so the name in them is of bytes.
-use Rattle.command_laws.proofs.Words.{◌≡◌, ℕ, ◌+◌, ◌<◌, ◌/◌, Bool, true, false, cond, List, [], ◌∷◌, ◌++◌, String, IsUtf8, refl, subst, arith, inl, inr, list_all, ltb-true, and_parts, and_from, nat_tests, is_byte, AreBytes, Command, PutUnder, PutAt, GetOf, DropOf, IsNamedForm, IsForm, IsSpelledCommand}
+use Rattle.command_laws.proofs.Words.{◌≡◌, ℕ, ◌+◌, ◌<◌, ◌/◌, Bool, true, false, cond, List, [], ◌∷◌, ◌++◌, String, IsUtf8, refl, arith, inl, inr, list_all, ltb-true, and_parts, and_from, nat_tests, is_byte, AreBytes, Command, PutUnder, PutAt, GetOf, DropOf, IsNamedForm, IsForm, IsSpelledCommand}
 use Rattle.std.specs.String.{string_bytes}
 use Rattle.std.specs.declared.alloc.Global.{Global}
 use Rattle.std.proofs.lemmas.Str.{IsUtf8-string_bytes}
@@ -24,12 +24,11 @@ by-length : (c : ℕ) → c < 1114112 → (x y z : Bool) → (x ≡ true → c <
     (z ≡ true → c < 65536) → list_all is_byte (cond x (c ∷ []) (cond y ((192 + c / 64) ∷ next c ∷ [])
     (cond z ((224 + c / 4096) ∷ next (c / 64) ∷ next c ∷ [])
     ((240 + c / 262144) ∷ next (c / 4096) ∷ next (c / 64) ∷ next c ∷ [])))) ≡ true
-by-length c l true y z one two three = more c [] (let a = one refl in omega (arith, a)) refl
+by-length c l true y z one two three = more c [] (omega (arith, one refl)) refl
 by-length c l false true z one two three =
-    more (192 + c / 64) (next c ∷ []) (let a = two refl in omega (arith, a))
-    (more (next c) [] (omega arith) refl)
+    more (192 + c / 64) (next c ∷ []) (omega (arith, two refl)) (more (next c) [] (omega arith) refl)
 by-length c l false false true one two three =
-    more (224 + c / 4096) (next (c / 64) ∷ next c ∷ []) (let a = three refl in omega (arith, a))
+    more (224 + c / 4096) (next (c / 64) ∷ next c ∷ []) (omega (arith, three refl))
     (more (next (c / 64)) (next c ∷ []) (omega arith) (more (next c) [] (omega arith) refl))
 by-length c l false false false one two three =
     more (240 + c / 262144) (next (c / 4096) ∷ next (c / 64) ∷ next c ∷ []) (omega (arith, l))
@@ -50,14 +49,14 @@ encodes-bytes (c ∷ cs) h = (let p = and_parts (scalar c) (scalars cs) h in
     both (encode c) (encodes cs) (encode-bytes c p.0) (encodes-bytes cs p.1))
 
 text-bytes : (bs : List ℕ) → IsUtf8 bs → AreBytes bs
-text-bytes bs h = subst (λ l. AreBytes l) h.1.1 (encodes-bytes h.0 h.1.0)
+text-bytes bs h = rw h.1.1 at (encodes-bytes h.0 h.1.0)
 
 -- ---- the words of a command
 
 name-spelled : (form : List ℕ) (words : List (String Global)) (name : List ℕ) →
     IsNamedForm form words name → AreBytes name
 name-spelled form (first ∷ second ∷ []) name h =
-    subst (λ l. AreBytes l) h.1 (text-bytes (string_bytes second) (IsUtf8-string_bytes second))
+    (rw h.1 at (text-bytes (string_bytes second) (IsUtf8-string_bytes second)))
 name-spelled form words name h = absurd h
 
 -- the words of a command are text, so the name in them is of bytes, and the number of a profile fits
@@ -65,7 +64,7 @@ pub form-spelled : (words : List (String Global)) (command : Command) → IsForm
     IsSpelledCommand command
 form-spelled words (PutUnder name) h = name-spelled _ words name h
 form-spelled (first ∷ second ∷ third ∷ []) (PutAt name profile) h =
-    (subst (λ l. AreBytes l) h.1 (text-bytes (string_bytes second) (IsUtf8-string_bytes second)), h.3)
+    ((rw h.1 at (text-bytes (string_bytes second) (IsUtf8-string_bytes second))), h.3)
 form-spelled [] (PutAt name profile) h = absurd h
 form-spelled (first ∷ []) (PutAt name profile) h = absurd h
 form-spelled (first ∷ second ∷ []) (PutAt name profile) h = absurd h

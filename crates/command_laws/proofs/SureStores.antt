@@ -19,8 +19,7 @@ fits all accepted room = record { some = λ e. cc; all = all; accepted = accepte
 -- each image of a disk of bytes that stand for them stands for them too
 pub stands : {area : Area} {rs : List Record} (bytes : List ℕ) → StandsActive bytes area rs →
     (image : List ℕ) → IsImage (firm bytes) image → StandsActive image area rs
-stands {area} {rs} bytes active image is =
-    subst (λ l. StandsActive l area rs) (sym (image-firm bytes image is)) active
+stands {area} {rs} bytes active image is = rw (← (image-firm bytes image is)) at active
 
 -- so it is of their text in the first area
 pub stands_for : {rs : List Record} → AreFitIn A rs → (image : List ℕ) → IsImage (firm (text rs)) image →
@@ -32,14 +31,13 @@ abbrev pub sure_in : (s : Seen) (area : Area) (rs : List Record) (bytes : List �
     s.disk ≡ Some (firm bytes) → StandsActive bytes area rs →
     (setup_in_effect rs).n ≤ length s.providers → IsSure s rs
 sure_in s area rs bytes fit is active few = record {
-  known = known-good (setup_in_effect rs) s (firm bytes) area rs is
-      (record {
-        some = fit.some;
-        accepted = fit.accepted;
-        room = fit.room;
-        setup = refl;
-        stands = subst (λ l. StandsActive l area rs) (sym (reads-firm bytes)) active;
-      }) few;
+  known = known-good (setup_in_effect rs) s (firm bytes) area rs is (record {
+    some = fit.some;
+    accepted = fit.accepted;
+    room = fit.room;
+    setup = refl;
+    stands = subst (λ l. StandsActive l area rs) (sym (reads-firm bytes)) active;
+  }) few;
   images = subst (λ told. EachImage told (λ image. StandsActive image area rs)) (sym is)
       (stands bytes active);
 }

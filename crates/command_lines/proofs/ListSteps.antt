@@ -5,8 +5,7 @@ use Rattle.record_defs.specs.Table.{File}
 
 -- one file more
 pub listed_more : (files : List File) (start text : List ℕ) (place : ℕ) (file : File) →
-    slice_get files place ≡ Some file
-    → text ≡ start ++ list_lines (take place files) →
+    slice_get files place ≡ Some file → text ≡ start ++ list_lines (take place files) →
     text ++ file_line file ≡ start ++ list_lines (take (place + 1) files)
 listed_more files start text place file at before =
     let more : take (place + 1) files ≡ take place files ++ file ∷ [] =

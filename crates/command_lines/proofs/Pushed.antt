@@ -29,6 +29,5 @@ told_as (Err fault) old new piece other same is = tt
 -- two pieces in one, behind others
 pub behind_two : (front word number end : List ℕ) →
     front ++ ((word ++ number) ++ end) ≡ ((front ++ word) ++ number) ++ end
-behind_two front word number end =
-    sym (append_assoc front (word ++ number) end)
+behind_two front word number end = sym (append_assoc front (word ++ number) end)
     ∙ ap (λ (text : List ℕ). text ++ end) (sym (append_assoc front word number))

@@ -48,17 +48,15 @@ damaged-give = given-right thing byte 0 0 _ (shown 0 ∷ shown 1 ∷ None ∷ sh
 
 -- where so many symbols of provider 0 differ, and all of provider 2
 abbrev Differ : (ℕ → ℕ) → ℕ → Type 0
-Differ off x = (flat_map (λ j. if off j == 0 then [] else Store j 1 0 ∷ []) (upto 4) ++ End ∷ []
-    ≡ ((if x == 0 then [] else Store 0 1 0 ∷ []) ++ Store 2 1 0 ∷ []) ++ End ∷ [])
-    × ((0 + x) ∷ 0 ∷ 6 ∷ 0 ∷ [] ≡ map (λ j. 0 + off j) (upto 4))
-    × ((0 + (if x == 0 then 0 else 1)) ∷ 0 ∷ 1 ∷ 0 ∷ []
-    ≡ map (λ j. 0 + (if off j == 0 then 0 else 1)) (upto 4))
+Differ off x = (flat_map (λ j. if off j == 0 then [] else Store j 1 0 ∷ []) (upto 4) ++ End ∷ [] ≡
+    ((if x == 0 then [] else Store 0 1 0 ∷ []) ++ Store 2 1 0 ∷ []) ++ End ∷ []) ×
+    ((0 + x) ∷ 0 ∷ 6 ∷ 0 ∷ [] ≡ map (λ j. 0 + off j) (upto 4)) × ((0 + (if x == 0 then 0 else 1)) ∷ 0 ∷ 1 ∷ 0
+    ∷ [] ≡ map (λ j. 0 + (if off j == 0 then 0 else 1)) (upto 4))
 
 -- where provider 0 gave this, and provider 2 nothing
 abbrev off_with : List ℕ → ℕ → ℕ
-off_with first j = differs (block_given (Fetched 3 1 0 (Some (own_block 3)) ∷ Fetched 2 1 0 None
-    ∷ Fetched 1 1 0 (Some (own_block 1)) ∷ Fetched 0 1 0 (Some first) ∷ []) 1 0 j)
-    (column_of_symbols thing symbols j 0)
+off_with first j = differs (block_given (Fetched 3 1 0 (Some (own_block 3)) ∷ Fetched 2 1 0 None ∷ Fetched 1 1
+    0 (Some (own_block 1)) ∷ Fetched 0 1 0 (Some first) ∷ []) 1 0 j) (column_of_symbols thing symbols j 0)
 
 by : (off : ℕ → ℕ) (x : ℕ) → off 0 ≡ x → off 1 ≡ 0 → off 2 ≡ 6 → off 3 ≡ 0 → Differ off x
 by off x a b c d = (rw (a, b, c, d) refl, sym (rw (a, b, c, d) refl), sym (rw (a, b, c, d) refl))
@@ -264,8 +262,7 @@ ThereIsOne = (old : Seen) (records : List Record) (faults : ℕ) → (opened : I
 module _ {records : List Record} {answer : Answer} {old new : Seen} where
   -- a job that runs alone over a store that is known runs from some state
   pub somewhere : {kind : Kind} {own : Option ℕ} {heard : List Entry} → ThereIsOne →
-      (sure : IsSure old records) →
-      RunsAlone sure.known.opened.area records kind own answer old new heard →
+      (sure : IsSure old records) → RunsAlone sure.known.opened.area records kind own answer old new heard →
       RunsSomewhere kind own answer heard
   somewhere one sure alone = (let w = one old records alone.faults sure.known.opened in
       let ran = alone.ran w.0 0 w.1 in

@@ -33,9 +33,8 @@ unfolding setup_in actions_of spelling
 got-robbed = ran byte_records (Works symbols ∷ fetches None (own 1) (own 2) (own 3)) (Gives (Got byte))
     (sure robbed_later byte_records byte-fit refl (omega arith)).known.opened
     (refl, refl, refl, refl, refl, refl, refl, (refl, refl)) (stands_for byte-fit)
-    (record { written = inl (refl, refl); place = refl })
-    (λ w n. turn without_zero_give (turn (block_sized 3) (turn (block_sized 2)
-    (turn (block_sized 1) (turn refl tt)))))
+    (record { written = inl (refl, refl); place = refl }) (λ w n. turn without_zero_give
+    (turn (block_sized 3) (turn (block_sized 2) (turn (block_sized 1) (turn refl tt)))))
     (λ w n. (refl, (refl, byte_back))) (λ w n. refl) (λ w n. refl)
 
 -- where all blocks are lost it finds a row lost, and has heard no block

@@ -83,12 +83,20 @@ cut = put-so (MayName.none refl) byte_records (Goes 11 ∷ []) Cut refl put-old.
 -- so it is where it leaves the gate of its last record loose
 pub torn : PutRun A four_records named byte None DiskFault to_put put_torn 12
 unfolding setup_in actions_of spelling
-torn = put-ends (MayName.none refl) put-old.known.opened
-    (refl, refl, put_begins, (refl, refl), refl, refl, refl, refl, omega arith)
-    (record { status_is = refl; place = refl; sink = refl })
+torn = put-ends (MayName.none refl) put-old.known.opened (
+  refl,
+  refl,
+  put_begins,
+  (refl, refl),
+  refl,
+  refl,
+  refl,
+  refl,
+  omega arith,
+) (record { status_is = refl; place = refl; sink = refl })
     (alone-so A four_records (PutJob named byte) None DiskFault to_put put_torn [] (λ bytes. bytes)
-    byte_records (Goes 11 ∷ []) _ (λ w V. refl)
-    (refl, refl, put_begins, (refl, refl), MayName.none refl) (λ w n image is. elim (torn-image image is) [
+    byte_records (Goes 11 ∷ []) _ (λ w V. refl) (refl, refl, put_begins, (refl, refl), MayName.none refl)
+    (λ w n image is. elim (torn-image image is) [
       | inl h ↦ inl (inl h)
       | inr h ↦ inr (inl (record { doubt = _; in_doubt = refl; stands = h }))
     ]) (λ w n. (refl, refl, tt))
@@ -99,13 +107,21 @@ torn = put-ends (MayName.none refl) put-old.known.opened
 -- it finds no memory at its first move
 pub unmade : PutRun A four_records named byte None Memory to_put put_unmade 70
 unfolding setup_in actions_of spelling
-unmade = put-ends (MayName.none refl) put-old.known.opened
-    (refl, refl, put_begins, (refl, refl), refl, refl, refl, refl, omega arith)
-    (record { status_is = refl; place = refl; sink = refl })
+unmade = put-ends (MayName.none refl) put-old.known.opened (
+  refl,
+  refl,
+  put_begins,
+  (refl, refl),
+  refl,
+  refl,
+  refl,
+  refl,
+  omega arith,
+) (record { status_is = refl; place = refl; sink = refl })
     (alone-so A four_records (PutJob named byte) None Memory to_put put_unmade [] (λ bytes. bytes)
     four_records [] _ (λ w V. refl) (refl, refl, put_begins, (refl, refl), MayName.none refl)
-    (λ w n image is. inl (inl (stands_for four-fit image is))) (λ w n. tt) (λ w n. refl)
-    (λ w n. refl) (λ w n. record { next = None; is_next = tt; same = refl }))
+    (λ w n image is. inl (inl (stands_for four-fit image is))) (λ w n. tt) (λ w n. refl) (λ w n. refl)
+    (λ w n. record { next = None; is_next = tt; same = refl }))
 
 -- a put over devices that tell nothing
 pub hidden : PutRun A four_records named byte None Put all_hidden all_hidden 0

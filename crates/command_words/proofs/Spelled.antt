@@ -54,19 +54,13 @@ put words = None
 
 -- the command of a first word and the words behind it
 abbrev by_word : List ℕ → List Word → Option Command
-by_word first words =
-    if bytes_eq first (codes "row") then row words
-    else if bytes_eq first (codes "init") then init words
-    else if bytes_eq first (codes "put") then put words
-    else if bytes_eq first (codes "get") then named (λ name. GetOf name) words
-    else if bytes_eq first (codes "drop") then named (λ name. DropOf name) words
-    else if bytes_eq first (codes "list") then Some ListAll
-    else if bytes_eq first (codes "audit") then Some AuditAll
-    else if bytes_eq first (codes "repair") then Some RepairAll
-    else if bytes_eq first (codes "upgrade") then Some UpgradeJournal
-    else if bytes_eq first (codes "scrub") then Some ScrubAll
-    else if bytes_eq first (codes "pack") then Some PackJournal
-    else None
+by_word first words = if bytes_eq first (codes "row") then row words else if bytes_eq first (codes "init")
+    then init words else if bytes_eq first (codes "put") then put words else if bytes_eq first (codes "get")
+    then named (λ name. GetOf name) words else if bytes_eq first (codes "drop") then named
+    (λ name. DropOf name) words else if bytes_eq first (codes "list") then Some ListAll else if bytes_eq first
+    (codes "audit") then Some AuditAll else if bytes_eq first (codes "repair") then Some RepairAll else if
+    bytes_eq first (codes "upgrade") then Some UpgradeJournal else if bytes_eq first (codes "scrub") then Some
+    ScrubAll else if bytes_eq first (codes "pack") then Some PackJournal else None
 
 -- the command of the words
 abbrev spelled : List Word → Option Command
@@ -151,8 +145,7 @@ spelled-named (c ∷ n ∷ more ∷ words) word name made form by = absurd form
 -- `put`, a name and the number of a profile
 spelled-put_at : (words : List Word) (name : List ℕ) (profile : ℕ) → IsPutAtForm words name profile →
     spelled words ≡ Some (PutAt name profile)
-spelled-put_at (c ∷ n ∷ p ∷ []) name profile form =
-    ap (λ (text : List ℕ). by_word text (n ∷ p ∷ [])) form.0
+spelled-put_at (c ∷ n ∷ p ∷ []) name profile form = ap (λ (text : List ℕ). by_word text (n ∷ p ∷ [])) form.0
     ∙ ap (λ (text : List ℕ). Some (PutAt text (number p))) form.1
     ∙ ap (λ (k : ℕ). Some (PutAt name k)) form.2.value
 spelled-put_at [] name profile form = absurd form

@@ -30,8 +30,7 @@ is_calm mark m older = list_all (is_calm_for mark (m ∷ older) m.state) m.state
 pub calm_by_test : (mark : Mark) (ms : List Moment) → all_pass (is_calm mark) ms ≡ true →
     IsCalm relies mark ms
 calm_by_test mark = each (is_calm mark) (IsCalm relies mark) tt (λ m ms t rest. (
-  λ number job at reads.
-      (let h = test_of (is_calm_for mark (m ∷ ms) m.state) m.state.jobs number job at t in
+  λ number job at reads. (let h = test_of (is_calm_for mark (m ∷ ms) m.state) m.state.jobs number job at t in
       grind (arith, leb-true)),
   rest,
 ))

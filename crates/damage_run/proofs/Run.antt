@@ -16,8 +16,7 @@ use Rattle.damage_run.proofs.Values.{without_two_give, without_zero_give, right,
 
 -- the file's block of a provider is lost
 abbrev pub lose : ℕ → State → State
-lose j w = called w j
-    (record (w.providers j) { held = option_map (without_block 1 0) (w.providers j).held })
+lose j w = called w j (record (w.providers j) { held = option_map (without_block 1 0) (w.providers j).held })
 
 -- a put
 abbrev pub put : List Instruction
@@ -76,11 +75,10 @@ fit_read = assumption (few, byte_back, own_work) and assumption few and (assumpt
 
 fit_audited : AreFit 8 set_up audited
 unfolding setup_in actions_of
-fit_audited = (omega arith and (refl, (refl, (refl, (sums, (sums, judged, refl), refl)))) and refl
-    and (refl, (refl, (sums, (sums, (sums, judged, refl), refl), refl)))
-    and (refl, (refl, same_first _ _ refl)) and (refl, (refl, sym (no_answer _ refl)))
-    and (refl, (refl, same_first _ _ refl)) and (refl, (refl, same_first _ _ refl)) and refl and tt)
-    and fit_read
+fit_audited = (omega arith and (refl, (refl, (refl, (sums, (sums, judged, refl), refl)))) and refl and
+    (refl, (refl, (sums, (sums, (sums, judged, refl), refl), refl))) and (refl, (refl, same_first _ _ refl))
+    and (refl, (refl, sym (no_answer _ refl))) and (refl, (refl, same_first _ _ refl)) and
+    (refl, (refl, same_first _ _ refl)) and refl and tt) and fit_read
 
 pub fit_repaired : AreFit 8 set_up repaired
 unfolding setup_in actions_of

@@ -45,8 +45,7 @@ none_reads = each (λ m older. not (reads m.event)) (NoneBeganFor Relies) tt
 pub unbegun_all : (Meant : Kind → Type 0) (xs ms : List Moment) → NoneBeganFor Meant xs →
     NoneUnderWay Meant ms → NoneUnderWay Meant (xs ++ ms)
 unbegun_all Meant [] ms none free = free
-unbegun_all Meant (x ∷ xs) ms none free =
-    unbegun x (xs ++ ms) none.0 (unbegun_all Meant xs ms none.1 free)
+unbegun_all Meant (x ∷ xs) ms none free = unbegun x (xs ++ ms) none.0 (unbegun_all Meant xs ms none.1 free)
 
 -- no job begins with the number
 abbrev pub is_apart : ℕ → Outcome → Bool

@@ -68,9 +68,8 @@ first_block = omega arith
 pub same_first : (held other : ℕ → Option (List ℕ)) → held 0 ≡ other 0 →
     honest_answer asked held ≡ honest_answer asked other
 unfolding all_held sum_over
-same_first held other same =
-    (let a : held (picked_row asked.seed 6 0 / 6) ≡ other (picked_row asked.seed 6 0 / 6) =
-    ap held first_block ∙ (same ∙ ap other (sym first_block)) in rw a refl)
+same_first held other same = (let a : held (picked_row asked.seed 6 0 / 6) ≡ other
+    (picked_row asked.seed 6 0 / 6) = ap held first_block ∙ (same ∙ ap other (sym first_block)) in rw a refl)
 
 -- a provider without its block has no answer
 pub no_answer : (held : ℕ → Option (List ℕ)) → held 0 ≡ None → honest_answer asked held ≡ None

@@ -41,6 +41,5 @@ pub All-picks_for : (P : ℕ → Type 0) (cells : Cells) (image : List ℕ) → 
 All-picks_for P [] image all = All-nil P
 All-picks_for P (c ∷ cells) [] all = All-nil P
 All-picks_for P ((b, false) ∷ cells) (i ∷ image) all = All-picks_for P cells image (All-tail P i image all)
-All-picks_for P ((b, true) ∷ cells) (i ∷ image) all =
-    All-cons P i (picks_for cells image) (All-head P i image all)
-    (All-picks_for P cells image (All-tail P i image all))
+All-picks_for P ((b, true) ∷ cells) (i ∷ image) all = All-cons P i (picks_for cells image)
+    (All-head P i image all) (All-picks_for P cells image (All-tail P i image all))

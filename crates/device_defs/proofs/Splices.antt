@@ -10,12 +10,11 @@ use Rattle.device_defs.specs.Disks.{spliced}
 drop_grown : {X : Type 0} (end : ℕ) (old : List X) (v : X) →
     drop end (old ++ replicate (end - length old) v) ≡ drop end old
 drop_grown end old v = elim (cases_lt (length old) end) [
-  | inl past ↦ drop_all end _
-      (omega (
-        arith,
-        length-append old (replicate (end - length old) v),
-        length-replicate (end - length old) v,
-      )) ∙ sym (drop_all end old (omega arith))
+  | inl past ↦ drop_all end _ (omega (
+    arith,
+    length-append old (replicate (end - length old) v),
+    length-replicate (end - length old) v,
+  )) ∙ sym (drop_all end old (omega arith))
   | inr within ↦
       let none : end - length old ≡ 0 = omega arith in
       ap (λ (k : ℕ). drop end (old ++ replicate k v)) none ∙ ap (λ (l : List _). drop end l) (append-nil old)
@@ -72,14 +71,13 @@ spliced_grown at new old grown v is =
 -- the length of a list in which a part was replaced
 pub length-spliced : {X : Type 0} (at : ℕ) (new old : List X) → at ≤ length old →
     length (spliced at new old) ≡ at + length new + (length old - (at + length new))
-length-spliced at new old le =
-    omega (
-      arith,
-      length-append (take at old) (new ++ drop (at + length new) old),
-      length-append new (drop (at + length new) old),
-      length-take at old,
-      length-drop (at + length new) old,
-    )
+length-spliced at new old le = omega (
+  arith,
+  length-append (take at old) (new ++ drop (at + length new) old),
+  length-append new (drop (at + length new) old),
+  length-take at old,
+  length-drop (at + length new) old,
+)
 
 -- what a read from a list gives
 pub read_part : (bytes out part : List ℕ) (at n : ℕ) → at ≤ length bytes →

@@ -49,8 +49,7 @@ module _ (at n : ℕ) (old : Cells) where
       ∙ sym (map-append (λ b. (b, true)) payload (drop (length payload) kept)) in
       record {
         bytes = payload ++ drop (length payload) kept;
-        held =
-            ap (λ (k : ℕ). spliced (min at k) (loose (replicate (at - k) 0 ++ half)) (marked at n old))
+        held = ap (λ (k : ℕ). spliced (min at k) (loose (replicate (at - k) 0 ++ half)) (marked at n old))
             length-marked
             ∙ spliced-spliced from (loose payload) (loose kept) old (omega arith)
             ∙ ap (λ (l : Cells). spliced from l old) both;

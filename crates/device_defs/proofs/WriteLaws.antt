@@ -76,9 +76,8 @@ module _ (at : ℕ) (bytes : List ℕ) (cells : Cells) (within : at ≤ length c
 
   loose_inside : (k : ℕ) → at ≤ k → k < at + length bytes →
       is_loose_at (spliced at (loose bytes) cells) k ≡ true
-  loose_inside k ge lt =
-      loose_behind (take at cells) (loose bytes ++ drop (at + length (loose bytes)) cells) k (k - at)
-      (omega (arith, front))
+  loose_inside k ge lt = loose_behind (take at cells) (loose bytes ++ drop (at + length (loose bytes)) cells)
+      k (k - at) (omega (arith, front))
       ∙ loose_before (loose bytes) (drop (at + length (loose bytes)) cells) (k - at)
       (omega (arith, long bytes))
       ∙ all_loose bytes (k - at) (omega arith)
@@ -88,9 +87,8 @@ module _ (at : ℕ) (bytes : List ℕ) (cells : Cells) (within : at ≤ length c
   loose_outside k (inl lt) =
       loose_before (take at cells) (loose bytes ++ drop (at + length (loose bytes)) cells) k
       (omega (arith, front)) ∙ loose_in_front at cells k lt
-  loose_outside k (inr ge) =
-      loose_behind (take at cells) (loose bytes ++ drop (at + length (loose bytes)) cells) k (k - at)
-      (omega (arith, front))
+  loose_outside k (inr ge) = loose_behind (take at cells)
+      (loose bytes ++ drop (at + length (loose bytes)) cells) k (k - at) (omega (arith, front))
       ∙ loose_behind (loose bytes) (drop (at + length (loose bytes)) cells) (k - at) (k - (at + length bytes))
       (omega (arith, long bytes))
       ∙ loose_past (at + length (loose bytes)) cells (k - (at + length bytes)) k (omega (arith, long bytes))

@@ -18,8 +18,7 @@ module _ (at n : ℕ) (held : List ℕ) (marks : List Bool) (same : length marks
 
   -- the bytes of the range that were there
   kept_is : reads (take over (drop from (zip held marks))) ≡ kept
-  kept_is =
-      ap (λ (l : Cells). reads (take over l)) (zip-drop from held marks)
+  kept_is = ap (λ (l : Cells). reads (take over l)) (zip-drop from held marks)
       ∙ ap (λ (l : Cells). reads l) (zip-take over (drop from held) (drop from marks))
       ∙ firsts-zip kept (take over (drop from marks))
       (omega (arith, size, length-take over (drop from marks), length-drop from marks))

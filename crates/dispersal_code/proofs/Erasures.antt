@@ -122,19 +122,16 @@ first_accepts l b need points xs ys rest seen even same few made total enough = 
 
 -- the same of lists that are those of the present symbols
 pub none_opens : (n l b : ℕ) (points : List ℕ) (seen : List (Option ℕ)) (xs ys : List ℕ) (keep fix : ℕ) →
-    IsShape n l b → length points ≡ length seen → length seen ≡ n →
-    n ≤ length ys + b → xs ≡ present_points points seen → ys ≡ present_symbols seen → keep ≡ l →
-    fix ≡ room_for n b (length ys) →
+    IsShape n l b → length points ≡ length seen → length seen ≡ n → n ≤ length ys + b →
+    xs ≡ present_points points seen → ys ≡ present_symbols seen → keep ≡ l → fix ≡ room_for n b (length ys) →
     NoneDecodes xs ys keep fix → AcceptsNone points seen l b
-none_opens n l b points seen xs ys keep fix shape even whole many is_x is_y is_keep is_fix none =
-    none_accepts n l b points seen shape even whole (rw is_y at many)
-    (rw (is_fix, is_keep, is_x, is_y) at none)
+none_opens n l b points seen xs ys keep fix shape even whole many is_x is_y is_keep is_fix none = none_accepts
+    n l b points seen shape even whole (rw is_y at many) (rw (is_fix, is_keep, is_x, is_y) at none)
 
 -- what the decoder finds in the present symbols is accepted, and nothing else is
 pub some_opens : (n l b : ℕ) (points : List ℕ) (seen : List (Option ℕ)) (xs ys p : List ℕ) (keep fix : ℕ) →
-    IsShape n l b → length points ≡ length seen → length seen ≡ n →
-    n ≤ length ys + b → xs ≡ present_points points seen → ys ≡ present_symbols seen → keep ≡ l →
-    fix ≡ room_for n b (length ys) →
+    IsShape n l b → length points ≡ length seen → length seen ≡ n → n ≤ length ys + b →
+    xs ≡ present_points points seen → ys ≡ present_symbols seen → keep ≡ l → fix ≡ room_for n b (length ys) →
     IsDecoded xs ys keep fix p → Accepts points seen l b p × IsOnlyAccepted points seen l b p
 some_opens n l b points seen xs ys p keep fix shape even whole many is_x is_y is_keep is_fix some =
     let found = rw (is_fix, is_keep, is_x, is_y) at some in

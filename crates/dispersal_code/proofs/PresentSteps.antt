@@ -45,8 +45,7 @@ symbols-some (s ∷ ss) (suc k) y e is = symbols-some ss k y (omega arith) is
 
 -- at an absent symbol nothing is added
 pub points_passed : (xs start total : List ℕ) (ss : List (Option ℕ)) (k : ℕ) (d : Option ℕ) → k < length xs →
-    length xs ≡ length ss → get_or ss k d ≡ None →
-    start ++ present_points (drop k xs) (drop k ss) ≡ total →
+    length xs ≡ length ss → get_or ss k d ≡ None → start ++ present_points (drop k xs) (drop k ss) ≡ total →
     start ++ present_points (drop (k + 1) xs) (drop (k + 1) ss) ≡ total
 points_passed xs start total ss k d h even is sum =
     ap (λ t. start ++ t) (rw add-one
@@ -71,9 +70,8 @@ pub points_taken : (xs start total : List ℕ) (ss : List (Option ℕ)) (k x y :
     get_or ss k d ≡ Some y → start ++ present_points (drop k xs) (drop k ss) ≡ total →
     (start ++ x ∷ []) ++ present_points (drop (k + 1) xs) (drop (k + 1) ss) ≡ total
 points_taken xs start total ss k x y d h even read is sum =
-    one_more start (present_points (drop k xs) (drop k ss))
-    (present_points (drop (k + 1) xs) (drop (k + 1) ss)) total x
-    (rw (read, add-one) (points-some xs ss k y h (omega arith)
+    one_more start (present_points (drop k xs) (drop k ss)) (present_points (drop (k + 1) xs)
+    (drop (k + 1) ss)) total x (rw (read, add-one) (points-some xs ss k y h (omega arith)
     (get_or_default ss k None d (omega arith) ∙ is))) sum
 
 -- and the symbol
@@ -95,8 +93,7 @@ symbols-past ss e = rw e refl
 -- after all places
 pub points_end : (xs start total : List ℕ) (ss : List (Option ℕ)) (k : ℕ) → length xs ≤ k →
     start ++ present_points (drop k xs) (drop k ss) ≡ total → start ≡ total
-points_end xs start total ss k h sum =
-    sym (append-none start (present_points (drop k xs) (drop k ss))
+points_end xs start total ss k h sum = sym (append-none start (present_points (drop k xs) (drop k ss))
     (points-past (drop k xs) (drop k ss) (drop_all k xs h))) ∙ sum
 
 -- after all places no symbol is left to add
@@ -108,6 +105,5 @@ symbols_end start total ss k h sum =
 -- chosen symbols by their two lists
 pub chosen_is : (c : Chosen) (xs ys : List ℕ) → c.points ≡ xs → c.symbols ≡ ys →
     c ≡ record { points = xs; symbols = ys }
-chosen_is c xs ys e f =
-    subst (λ (p : List ℕ). c ≡ record { points = p; symbols = ys }) e
+chosen_is c xs ys e f = subst (λ (p : List ℕ). c ≡ record { points = p; symbols = ys }) e
     (subst (λ (q : List ℕ). c ≡ record { points = c.points; symbols = q }) f refl)

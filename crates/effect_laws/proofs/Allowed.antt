@@ -1,16 +1,12 @@
 -- Which begins of puts and drops are allowed.
-use Rattle.effect_laws.proofs.Words.{◌≡◌, ℕ, List, [], ◌∷◌, refl, ap, sym, subst, ◌∙◌, inl, inr, Kind, PutJob, DropJob, Job, Event, Begin, BeginAt, Begun, Moment, IsBeginOf, IsPutBegin, Touches, IsBeginFor, NoneBeganOn, PutsUnder, Drops, NoPutBegan}
+use Rattle.effect_laws.proofs.Words.{◌≡◌, ℕ, List, [], ◌∷◌, refl, sym, subst, inl, inr, Kind, PutJob, DropJob, Job, Event, Begin, Begun, Moment, IsBeginOf, IsPutBegin, Touches, IsBeginFor, NoneBeganOn, PutsUnder, Drops, NoPutBegan}
 use Rattle.effect_laws.proofs.Offers.{Allows, BeginsAllowed, AllAllowed}
 
 -- the begin of a put of bytes under a name is one
 put_begin : (event : Event) (j : Job) (n name bytes : List ℕ) → IsBeginOf event j → j.kind ≡ PutJob n bytes →
     n ≡ name → IsPutBegin event name bytes
-put_begin event j n name bytes (inl is) kind same = inl (is ∙ ap Begin (kind ∙ ap (λ q. PutJob q bytes) same))
-put_begin event j n name bytes (inr (m, by, is_kind, is)) kind same =
-    (let e : PutJob m by ≡ PutJob n bytes = sym is_kind ∙ kind in
-    let f : m ≡ n = cc in
-    let g : by ≡ bytes = cc in
-    inr (j.profile, is ∙ (ap (λ q. BeginAt j.profile q by) (f ∙ same) ∙ ap (BeginAt j.profile name) g)))
+put_begin event j n name bytes (inl is) kind same = inl cc
+put_begin event j n name bytes (inr (m, by, is_kind, is)) kind same = inr (j.profile, cc)
 
 -- a begin of a job of a kind that is meant is one for these
 begin_for : (Meant : Kind → Type 0) (event : Event) (j : Job) → IsBeginOf event j → Meant j.kind →
@@ -21,8 +17,8 @@ begin_for Meant event j (inr (n, bytes, kind, is)) t = subst (IsBeginFor Meant) 
 -- the begin of a put of a name is the begin of a job that puts it
 pub put_for : (Meant : Kind → Type 0) (event : Event) (name bytes : List ℕ) →
     Meant (PutJob name bytes) → IsPutBegin event name bytes → IsBeginFor Meant event
-put_for Meant event name bytes t (inl is) = subst (IsBeginFor Meant) (sym is) t
-put_for Meant event name bytes t (inr (profile, is)) = subst (IsBeginFor Meant) (sym is) t
+put_for Meant event name bytes t (inl is) = rw is t
+put_for Meant event name bytes t (inr (profile, is)) = rw is t
 
 module _ (Fit : List ℕ → Type 0) (Absent : Type 0) (name : List ℕ) where
   -- a moment's begin is allowed, where that of a put is of bytes that fit, and that of a drop may be

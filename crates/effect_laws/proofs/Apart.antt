@@ -23,8 +23,7 @@ carried_apart (Once event ∷ own) others ms lines (m, older, before, is, here, 
       before = P.before;
       more = P.more ++ lines_of m.outcome;
       moments = is ∙ ap (λ l. m ∷ l) P.moments;
-      lines_are = lines_are ∙ ap (λ l. l ++ lines_of m.outcome) P.lines_are
-          ∙ append_assoc P.before P.more (lines_of m.outcome);
+      lines_are = cc (lines_are, P.lines_are, append_assoc P.before P.more (lines_of m.outcome));
       owns = (m, P.later, P.more, refl, here, P.owns, refl);
       rest = P.rest;
     })
@@ -34,10 +33,8 @@ carried_apart (RunJob job ∷ own) others ms lines (m, steps, older, before, is,
       older = P.older;
       before = P.before;
       more = P.more ++ lines_of m.outcome;
-      moments = is ∙ ap (λ l. m ∷ (steps ++ l)) P.moments
-          ∙ ap (λ l. m ∷ l) (sym (append_assoc steps P.later P.older));
-      lines_are = lines_are ∙ ap (λ l. l ++ lines_of m.outcome) P.lines_are
-          ∙ append_assoc P.before P.more (lines_of m.outcome);
+      moments = cc (is, P.moments, append_assoc steps P.later P.older);
+      lines_are = cc (lines_are, P.lines_are, append_assoc P.before P.more (lines_of m.outcome));
       owns = (m, steps, P.later, P.more, refl, here, P.owns, refl);
       rest = P.rest;
     })
@@ -97,8 +94,7 @@ ends_apart (RunJob job ∷ own) others ms (r ∷ rs) before (m, steps, older, is
     (let P = ends_apart own others older rs before E (omega (arith, same)) in record {
       later = m ∷ (steps ++ P.later);
       older = P.older;
-      moments = is ∙ ap (λ l. m ∷ (steps ++ l)) P.moments
-          ∙ ap (λ l. m ∷ l) (sym (append_assoc steps P.later P.older));
+      moments = cc (is, P.moments, append_assoc steps P.later P.older);
       owns = (m, steps, P.later, refl, here, outcome, P.owns);
       rest = P.rest;
     })
@@ -109,9 +105,9 @@ reads_long : (own others : List Instruction) (ms : List Moment) (outcomes : List
     ReadsAs (own ++ others) ms outcomes → length own ≤ length outcomes
 reads_long [] others ms outcomes E = omega arith
 reads_long (Once event ∷ own) others ms (r ∷ rs) (m, older, is, here, outcome, E) =
-    (let l = reads_long own others older rs E in omega (arith, l))
+    omega (arith, reads_long own others older rs E)
 reads_long (RunJob job ∷ own) others ms (r ∷ rs) (m, steps, older, is, here, outcome, E) =
-    (let l = reads_long own others older rs E in omega (arith, l))
+    omega (arith, reads_long own others older rs E)
 reads_long (Once event ∷ own) others ms [] E = absurd E
 reads_long (RunJob job ∷ own) others ms [] E = absurd E
 
@@ -119,8 +115,7 @@ reads_long (RunJob job ∷ own) others ms [] E = absurd E
 pub outcomes_apart : (own others : List Instruction) (ms : List Moment) (outcomes : List Outcome) →
     ReadsAs (own ++ others) ms outcomes → (rs : List Outcome) × (ss : List Outcome) × (outcomes ≡ rs ++ ss)
     × (length rs ≡ length own) × EndsApart own others ms rs ss
-outcomes_apart own others ms outcomes E =
-    (let whole = take-append-drop (length own) outcomes in
+outcomes_apart own others ms outcomes E = (let whole = take-append-drop (length own) outcomes in
     let size : length (take (length own) outcomes) ≡ length own =
     length-take-le (length own) outcomes (reads_long own others ms outcomes E) in (
       take (length own) outcomes,

@@ -1,5 +1,5 @@
 -- What commands do not ask for, the moments that carry them out do not begin.
-use Rattle.effect_laws.proofs.Words.{◌≡◌, ℕ, true, List, [], ◌∷◌, ◌++◌, ap, sym, subst, ◌∙◌, inl, inr, append_assoc, and_parts, false≢true, Kind, PutJob, Event, Begin, BeginAt, Step, Outcome, Begun, More, Listed, Continue, NoneContinues, Moment, NoneBegan, GivesUp, IsPutBegin, Instruction, Once, RunJob, GoOn, Touches, IsBeginFor, NoneBeganFor, NoneUnderWay, IsFree, NoneBeganOn, NoneAsksOn, PutsOnly, IsRead, is_call, calls_none, NoneCalls, ReadsAs, NoneAsksFor, AsksPutsOnly, LeavesFree, NoneIsBegun}
+use Rattle.effect_laws.proofs.Words.{◌≡◌, ℕ, true, List, [], ◌∷◌, ◌++◌, ap, sym, subst, ◌∙◌, inl, inr, append_assoc, and_parts, false≢true, Kind, Event, Step, Outcome, Begun, More, Listed, NoneContinues, Moment, NoneBegan, IsPutBegin, Instruction, Once, RunJob, GoOn, Touches, IsBeginFor, NoneBeganFor, NoneUnderWay, IsFree, NoneBeganOn, NoneAsksOn, PutsOnly, IsRead, is_call, calls_none, NoneCalls, ReadsAs, NoneAsksFor, AsksPutsOnly, LeavesFree, NoneIsBegun}
 use Rattle.std.proofs.Common.{not}
 
 -- ---- moments
@@ -68,10 +68,8 @@ none_on name cs ms rs E none = none_for (Touches name) cs ms rs E (asks_for name
 -- a step is no begin of a put
 step_puts : (job : ℕ) (name bytes other : List ℕ) (event : Event) → event ≡ Step job →
     IsPutBegin event name other → other ≡ bytes
-step_puts job name bytes other event step (inl is) =
-    absurd (let e : Step job ≡ Begin (PutJob name other) = sym step ∙ is in cc)
-step_puts job name bytes other event step (inr (profile, is)) =
-    absurd (let e : Step job ≡ BeginAt profile name other = sym step ∙ is in cc)
+step_puts job name bytes other event step (inl is) = absurd cc
+step_puts job name bytes other event step (inr (profile, is)) = absurd cc
 
 -- commands whose puts of the name are of some bytes begin only such
 pub puts_only : (name bytes : List ℕ) (cs : List Instruction) (ms : List Moment) (rs : List Outcome) →
@@ -81,8 +79,7 @@ puts_only name bytes = each_read (PutsOnly name bytes) (λ cs rs. AsksPutsOnly n
     (λ event cs m r rs here outcome only. (
       only.1,
       λ ms q. (
-        (λ other n put begun.
-            only.0 other (subst (λ (e : Event). IsPutBegin e name other) here put)),
+        (λ other n put begun. only.0 other (subst (λ (e : Event). IsPutBegin e name other) here put)),
         q,
       ),
     ))
@@ -95,16 +92,14 @@ puts_only name bytes = each_read (PutsOnly name bytes) (λ cs rs. AsksPutsOnly n
 
 -- an outcome that is a begin is read as it
 read_begun : (number : ℕ) (x r : Outcome) → IsRead x r → x ≡ Begun number → r ≡ Begun number
-read_begun number x (Listed told) (files, is, same) begun =
-    absurd (let e : Listed files ≡ Begun number = sym is ∙ begun in cc)
+read_begun number x (Listed told) (files, is, same) begun = absurd cc
 read_begun number x r is begun = sym is ∙ begun
 
 -- where no outcome is the begin of a number, none began it
 pub none_begun : (number : ℕ) (cs : List Instruction) (ms : List Moment) (rs : List Outcome) →
     ReadsAs cs ms rs → NoneIsBegun number rs → NoneBegan number ms
 none_begun number = each_read (NoneBegan number) (λ cs rs. NoneIsBegun number rs) tt
-    (λ job m ms event outcome q. ((λ is. (let e : More ≡ Begun number = sym outcome ∙ is in cc)), q))
-    (λ event cs m r rs here outcome none. (
+    (λ job m ms event outcome q. ((λ is. cc), q)) (λ event cs m r rs here outcome none. (
       none.1,
       λ ms q. ((λ begun. none.0 (read_begun number m.outcome r outcome begun)), q),
     ))
@@ -127,19 +122,14 @@ pub free_behind : (name : List ℕ) (cs : List Instruction) (ms base : List Mome
     ReadsAs cs ms rs → LeavesFree name cs → IsFree name base → IsFree name (ms ++ base)
 free_behind name [] ms base [] is leaves free = subst (λ l. IsFree name (l ++ base)) (sym is) free
 free_behind name (Once event ∷ cs) ms base (r ∷ rs) (m, older, is, here, outcome, more) (inl up) free =
-    subst (λ l. IsFree name (l ++ base)) (sym is)
-    (NoneUnderWay.given_up m (older ++ base) (subst GivesUp (sym here) up))
+    rw is (NoneUnderWay.given_up m (older ++ base) (rw here up))
 free_behind name (Once event ∷ cs) ms base (r ∷ rs) (m, older, is, here, outcome, more) (inr leaves) free =
-    subst (λ l. IsFree name (l ++ base)) (sym is) (NoneUnderWay.unbegun m (older ++ base)
-    (λ t n begun. leaves.0 (subst (IsBeginFor (Touches name)) here t))
+    rw is (NoneUnderWay.unbegun m (older ++ base) (λ t n begun. leaves.0 (rw here at t))
     (free_behind name cs older base rs more leaves.1 free))
 free_behind name (RunJob job ∷ cs) ms base (r ∷ rs) (m, steps, older, is, runs, outcome, more) leaves free =
-    subst (λ l. IsFree name (l ++ base)) (sym is)
-    (subst (IsFree name) (ap (λ l. m ∷ l) (sym (append_assoc steps older base)))
-    (free_more name (m ∷ steps) (older ++ base) (free_behind name cs older base rs more leaves free) (
-      (λ t n begun. subst (IsBeginFor (Touches name)) runs.step t),
-      steps_none (Touches name) job steps runs.before,
-    )))
+    rw (is, append_assoc steps older base)
+    (free_more name (m ∷ steps) (older ++ base) (free_behind name cs older base rs more leaves free)
+    ((λ t n begun. rw runs.step at t), steps_none (Touches name) job steps runs.before))
 free_behind name cs ms base rs E leaves free = absurd E
 
 -- commands of which none asks on a name leave it free
@@ -153,13 +143,9 @@ none_leaves name (RunJob job ∷ cs) none = none_leaves name cs none
 -- commands of which none is a later call of the program are carried out in one
 pub one_call : (cs : List Instruction) (ms : List Moment) (rs : List Outcome) → ReadsAs cs ms rs →
     NoneCalls cs → NoneContinues ms
-one_call = each_read NoneContinues (λ cs rs. NoneCalls cs) tt
-    (λ job m ms event outcome q. ((λ is. (let e : Step job ≡ Continue = sym event ∙ is in cc)), q))
+one_call = each_read NoneContinues (λ cs rs. NoneCalls cs) tt (λ job m ms event outcome q. ((λ is. cc), q))
     (λ event cs m r rs here outcome none. (none.1, λ ms q. ((λ e. none.0 (sym here ∙ e)), q)))
-    (λ job cs m r rs step outcome none. (
-      none,
-      λ ms q. ((λ e. (let f : Step job ≡ Continue = sym step ∙ e in cc)), q),
-    ))
+    (λ job cs m r rs step outcome none. (none, λ ms q. ((λ e. cc), q)))
 
 -- a test tells it of commands
 pub tested_calls : (cs : List Instruction) → calls_none cs ≡ true → NoneCalls cs

@@ -1,11 +1,10 @@
 -- A drop that ended well takes its name out.
-use Rattle.effect_laws.proofs.Words.{◌≡◌, ℕ, zero, suc, ◌+◌, ◌<◌, ◌≤◌, ◌==◌, ◌⊎◌, Bool, true, false, List, [], ◌∷◌, ◌++◌, length, Some, None, refl, ap, sym, subst, ◌∙◌, inl, inr, arith, slice_get, is_some, cases_Bool, cases_lt, eqb-true, and_parts, some-not-none, is_some-none, Record, Drop, is_same_name, file_of, same-refl, Kind, PutJob, DropJob, Job, job_of, Action, WriteBody, SyncBody, WriteGate, SyncGate, End, actions_by, append_actions, remove_actions, Dropped, Event, Begin, BeginAt, Step, Begun, Ended, State, Append, IsStart, setup_in, file_in, next_action, is_idle_drop, Moment, now, IsRun, IsBeginOf, NoneBegan, Touches, IsBeginFor, NoneBeganOn, NoneOn, cond_true, cond_false, same_value, IsPlain, Job_is, Doubt_is, Changes, event_end, changes, next_by, next_is_by, All, all, is_begun, ended_job, only_its, none_under_way, run_back, IsLimit, run-sound, PutsUnder, DroppedOut}
+use Rattle.effect_laws.proofs.Words.{◌≡◌, ℕ, suc, ◌+◌, ◌<◌, ◌≤◌, ◌==◌, ◌⊎◌, Bool, true, false, List, [], ◌∷◌, ◌++◌, length, Some, None, refl, ap, sym, subst, ◌∙◌, inl, inr, arith, slice_get, is_some, cases_Bool, cases_lt, eqb-true, and_parts, some-not-none, is_some-none, Drop, file_of, same-refl, Kind, PutJob, DropJob, Job, job_of, Action, WriteBody, SyncGate, End, actions_by, append_actions, remove_actions, Dropped, Event, Begin, Step, Begun, Ended, State, Append, IsStart, setup_in, file_in, next_action, is_idle_drop, Moment, now, IsRun, IsBeginOf, NoneBegan, Touches, NoneBeganOn, NoneOn, cond_false, same_value, IsPlain, Job_is, Doubt_is, Changes, event_end, changes, next_by, next_is_by, All, all, is_begun, ended_job, only_its, none_under_way, run_back, IsLimit, run-sound, DroppedOut}
 use Rattle.std.specs.Prelude.{not}
 use Rattle.machine_defs.proofs.ActionLists.{split_get}
 use Rattle.machine_defs.proofs.Pins.{Wrote}
 use Rattle.machine_defs.proofs.Survive.{shorter}
-use Rattle.run_laws.proofs.InEffect as effect
-use Rattle.effect_laws.proofs.Offers.{Fits, Allows, Brings, Offers, offers_step, offers}
+use Rattle.effect_laws.proofs.Offers.{Fits, Allows, Brings, Offers, offers}
 use Rattle.effect_laws.proofs.Allowed.{none_put, none_touched}
 use Rattle.effect_laws.proofs.Origin.{none_fit}
 use Rattle.effect_laws.proofs.Steady.{goes_on, steady}
@@ -48,8 +47,7 @@ third : (w : State) (job : Job) (name : List ℕ) (action : Action) → job.kind
     next_action w job ≡ Some action → job.place ≡ 3 → action ≡ SyncGate
 third w job name action kind next_is place = elim (drop_at w job name action kind next_is) [
   | DropAt.idle z none ↦ absurd (omega arith)
-  | DropAt.first l e ↦ (let f : Some SyncGate ≡ Some action =
-      subst (λ n. slice_get append_actions n ≡ Some action) place e in let g : action ≡ SyncGate = cc in g)
+  | DropAt.first l e ↦ (let f : Some SyncGate ≡ Some action = rw place at e in cc)
   | DropAt.after l ↦ absurd (omega arith)
 ]
 
@@ -63,11 +61,8 @@ at_end w job name kind next_is = elim (drop_at w job name End kind next_is) [
 ]
   where
     no_end : (q : ℕ) → slice_get append_actions q ≡ Some End → ⊥
-    no_end zero e = (let f : Some WriteBody ≡ Some End = e in cc)
-    no_end (suc zero) e = (let f : Some SyncBody ≡ Some End = e in cc)
-    no_end (suc (suc zero)) e = (let f : Some WriteGate ≡ Some End = e in cc)
-    no_end (suc (suc (suc zero))) e = (let f : Some SyncGate ≡ Some End = e in cc)
-    no_end (suc (suc (suc (suc q)))) e = (let f : None ≡ Some End = e in cc)
+    no_end (suc (suc (suc (suc q)))) e = cc e
+    no_end q e = cc e
 
 -- ---- since its begin
 
@@ -79,8 +74,7 @@ none_puts : (name : List ℕ) (w : State) (number : ℕ) (job : Job) → job.kin
 none_puts name w number job kind runs only k j at = by_kind j.kind refl
   where
     by_kind : (kd : Kind) → j.kind ≡ kd → Allows (λ bytes. ⊥) (Unit {0}) name kd
-    by_kind (PutJob q bytes) is = λ same.
-        (let mine = only k j at (subst (Touches name) (sym is) same) in
+    by_kind (PutJob q bytes) is = λ same. (let mine = only k j at (subst (Touches name) (sym is) same) in
         let one : j ≡ job = same_value _ j job at (subst (λ n. job_of w.jobs n ≡ Some job) (sym mine) runs) in
         let e : PutJob q bytes ≡ DropJob name = sym is ∙ (ap (λ (z : Job). z.kind) one ∙ kind) in cc)
     by_kind (DropJob q) is = λ same. tt
@@ -103,23 +97,18 @@ module _ (limit : ℕ) (start : State) (clean : IsStart start) (name : List ℕ)
     X = changes limit (length ms) (now start ms) m.event m.outcome m.state A.numbers.idle run.1
 
     onward : IsOut name (now start ms) → IsOut name m.state
-    onward O = offers_step (λ bytes. ⊥) (Unit {0}) name limit start m ms run A
-        (effect.facts limit start ms clean run.2) X O
-        (none_touched (λ bytes. ⊥) (Unit {0}) name (m ∷ []) quiet).0
+    onward O = offers (λ bytes. ⊥) (Unit {0}) name limit start clean (m ∷ []) ms run O
+        (none_touched (λ bytes. ⊥) (Unit {0}) name (m ∷ []) quiet)
 
     -- at the end of its append
     module _ (j : Job) (runs : job_of m.state.jobs number ≡ Some j) (kind : j.kind ≡ DropJob name) (a : Append)
         (entry : a.entry ≡ Drop name) (rec : m.state.records ≡ a.entry ∷ (now start ms).records)
         (landed : m.state.append ≡ None) where
-      none_there : file_of m.state.records name ≡ None
-      none_there = ap (λ l. file_of l name) (rec ∙ ap (λ (r : Record). r ∷ (now start ms).records) entry)
-          ∙ cond_true (is_same_name name name) None (file_of (now start ms).records name) (same-refl name)
-
       grown : m.state.records ≡ (now start ms).records → ⊥
       grown same = shorter a.entry (now start ms).records (sym same ∙ rec)
 
       effect_now : Fits (λ bytes. ⊥) (Unit {0}) name m.state (file_of m.state.records name)
-      effect_now = subst (Fits (λ bytes. ⊥) (Unit {0}) name m.state) (sym none_there) tt
+      effect_now = rw (rec, entry, same-refl) tt
 
       dropped_now : IsOut name m.state
       dropped_now = record {
@@ -150,8 +139,7 @@ module _ (limit : ℕ) (start : State) (clean : IsStart start) (name : List ℕ)
           (let kx : x.kind ≡ DropJob name = sym (ap (λ (y : Job). y.kind) is) ∙ kind in
           let place : j.place ≡ x.place + 1 = ap (λ (y : Job). y.place) is in
           elim (cases_lt x.place 4) [
-            | inl l ↦ absurd (let e : WriteBody ≡ SyncGate =
-                third (now start ms) x name WriteBody kx next_is (omega arith) in cc)
+            | inl l ↦ absurd (cc (third (now start ms) x name WriteBody kx next_is (omega arith)))
             | inr l ↦ onward (D x runs kx l)
           ])
       | Job_is.finished x a runs next_is flies mine is rec landed ↦
@@ -181,18 +169,15 @@ module _ (limit : ℕ) (start : State) (clean : IsStart start) (name : List ℕ)
       NoneOn name (now start older) → NoneBeganOn name between → b.outcome ≡ Begun number →
       HasDropped name number (now start (between ++ b ∷ older))
   has_dropped [] older b run none began begun = at_begin older b run none
-  has_dropped (m ∷ between) older b run none began begun =
-      has_step m (between ++ b ∷ older) run (began.0, tt)
-      (λ k j h t. (let e : Begun k ≡ Begun number =
-      sym (only_its (Touches name) limit start (m ∷ between) older b run none began k j h t) ∙ begun in cc))
+  has_dropped (m ∷ between) older b run none began begun = has_step m (between ++ b ∷ older) run (began.0, tt)
+      (λ k j h t. cc (only_its (Touches name) limit start (m ∷ between) older b run none began k j h t))
       (has_dropped between older b run.2 none began.1 begun)
 
 -- a job begun by the begin of a drop of a name is one
 kind_of_drop : (e : Event) (j : Job) (name : List ℕ) → IsBeginOf e j → e ≡ Begin (DropJob name) →
     j.kind ≡ DropJob name
-kind_of_drop e j name (inl is) p = (let f : Begin j.kind ≡ Begin (DropJob name) = sym is ∙ p in cc)
-kind_of_drop e j name (inr (n, by, kind, is)) p =
-    absurd (let f : BeginAt j.profile n by ≡ Begin (DropJob name) = sym is ∙ p in cc)
+kind_of_drop e j name (inl is) p = cc
+kind_of_drop e j name (inr (n, by, kind, is)) p = absurd cc
 
 -- ---- a drop that ended well
 
@@ -220,22 +205,16 @@ out_at_end limit start fits clean between older m b name number run none event b
           (run-sound limit start ms fits clean run.2) on
           (subst (Fits (λ bytes. ⊥) (Unit {0}) name (now start ms)) (sym gone) tt)
           (λ k j h. none_puts name (now start ms) number job kind p.1
-          (λ n y g t. (let e : Begun n ≡ Begun number =
-          sym (only_its (Touches name) limit start between older b run.2 none quiet n y g t) ∙ begun in cc))
+          (λ n y g t. cc (only_its (Touches name) limit start between older b run.2 none quiet n y g t))
           k j h)
     ] in
-    offers_step (λ bytes. ⊥) (Unit {0}) name limit start m ms run (all limit start clean ms run.2)
-    (effect.facts limit start ms clean run.2)
-    (changes limit (length ms) (now start ms) m.event m.outcome m.state
-    (all limit start clean ms run.2).numbers.idle run.1) before
-    (none_put (λ bytes. ⊥) (Unit {0}) name (m ∷ []) tt
-    ((λ on n is. subst (IsBeginFor (PutsUnder name)) step on), tt)).0)
+    offers (λ bytes. ⊥) (Unit {0}) name limit start clean (m ∷ []) ms run before
+    (none_put (λ bytes. ⊥) (Unit {0}) name (m ∷ []) tt ((λ on n is. rw step at on), tt)))
 
 -- a name that was dropped, and that no put began since, has no file
 pub dropped_out : (limit : ℕ) (start : State) (ms : List Moment) (name : List ℕ) → IsLimit limit →
     IsStart start → IsRun limit start ms → DroppedOut ms name → file_in (now start ms) name ≡ None
-dropped_out limit start ms name fits clean run D =
-    (let old = D.between ++ D.begin ∷ D.older in
+dropped_out limit start ms name fits clean run D = (let old = D.between ++ D.begin ∷ D.older in
     let all_run = subst (IsRun limit start) D.split run in
     let at_end_run = run_back limit start D.later (D.end ∷ old) all_run in
     let none_on = none_under_way (Touches name) limit start clean D.older D.free
@@ -244,6 +223,4 @@ dropped_out limit start ms name fits clean run D =
     (out_at_end limit start fits clean D.between D.older D.end D.begin name D.number at_end_run none_on
     D.begin_event D.begun D.none D.none_between D.end_event D.ended)
     (none_put (λ bytes. ⊥) (Unit {0}) name D.later tt D.none_since) in
-    subst (λ hs. file_in (now start hs) name ≡ None) (sym D.split)
-    (none_fit (Unit {0}) name (now start (D.later ++ D.end ∷ old)) (file_in (now start (D.later ++ D.end ∷ old)) name)
-    O.effect))
+    rw D.split (none_fit (Unit {0}) name (now start (D.later ++ D.end ∷ old)) _ O.effect))

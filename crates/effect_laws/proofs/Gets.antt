@@ -34,8 +34,7 @@ module _ (limit : ℕ) (start : State) (after gaps : List Moment) (c g : Moment)
   seen ms = after ++ g ∷ (gaps ++ c ∷ ms)
 
   pub gave : (ms : List Moment) → IsRun limit start (seen ms) → Gave start ms (seen ms) get name got
-  gave ms all_run =
-      (let run = run_back limit start after (g ∷ (gaps ++ c ∷ ms)) all_run in
+  gave ms all_run = (let run = run_back limit start after (g ∷ (gaps ++ c ∷ ms)) all_run in
       let all = gaps ++ c ∷ ms in
       let q = ended_job limit (length all) (now start all) g.event g.outcome g.state get (Got got) tt
       G.end_event G.ended run.1 in
@@ -70,37 +69,31 @@ module _ (limit : ℕ) (start : State) (after gaps : List Moment) (c g : Moment)
   -- so it gave what was put
   pub gave_put : (ms : List Moment) → IsRun limit start (seen ms) →
       (own : List ℕ) × WasPut ms name own × GotRight start ms (seen ms) get name own got
-  gave_put ms run =
-      (let R = gave ms run in (
-        (now start ms).bytes R.file.id,
-        was_put limit start ms name R.file clean
-            (run_back limit start gaps (c ∷ ms) (run_back limit start after (g ∷ (gaps ++ c ∷ ms)) run).2).2
-            (inl R.in_effect),
-        R.right,
-      ))
+  gave_put ms run = (let R = gave ms run in (
+    (now start ms).bytes R.file.id,
+    was_put limit start ms name R.file clean
+        (run_back limit start gaps (c ∷ ms) (run_back limit start after (g ∷ (gaps ++ c ∷ ms)) run).2).2
+        (inl R.in_effect),
+    R.right,
+  ))
 
   module _ (later ms : List Moment) (bytes : List ℕ) (fits : IsLimit limit)
       (run : IsRun limit start (seen (later ++ ms))) (S : Stored ms name bytes) where
     -- what was stored, or put since
     pub gave_since : (own : List ℕ) × OldOrNew later name bytes own
         × GotRight start (later ++ ms) (seen (later ++ ms)) get name own got
-    gave_since =
-        (let R = gave (later ++ ms) run in (
-          (now start (later ++ ms)).bytes R.file.id,
-          whose limit start later ms name bytes fits clean
-              (run_back limit start gaps (c ∷ (later ++ ms))
-              (run_back limit start after (g ∷ (gaps ++ c ∷ (later ++ ms))) run).2).2 S R.file
-              (inl R.in_effect),
-          R.right,
-        ))
+    gave_since = (let R = gave (later ++ ms) run in (
+      (now start (later ++ ms)).bytes R.file.id,
+      whose limit start later ms name bytes fits clean (run_back limit start gaps (c ∷ (later ++ ms))
+          (run_back limit start after (g ∷ (gaps ++ c ∷ (later ++ ms))) run).2).2 S R.file (inl R.in_effect),
+      R.right,
+    ))
 
     -- where all puts since are of some bytes, the stored ones or these
     pub gave_only : (new : List ℕ) → PutsOnly name new later →
         GotRight start (later ++ ms) (seen (later ++ ms)) get name bytes got
         ⊎ GotRight start (later ++ ms) (seen (later ++ ms)) get name new got
     gave_only new only = elim gave_since.1 [
-      | inl old ↦ inl (subst (λ b. GotRight start (later ++ ms) (seen (later ++ ms)) get name b got) old
-          gave_since.2)
-      | inr put ↦ inr (subst (λ b. GotRight start (later ++ ms) (seen (later ++ ms)) get name b got)
-          (put_only name new gave_since.0 later only put) gave_since.2)
+      | inl old ↦ inl (rw old at gave_since.2)
+      | inr put ↦ inr (rw (put_only name new gave_since.0 later only put) at gave_since.2)
     ]

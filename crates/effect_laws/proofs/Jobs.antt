@@ -1,5 +1,5 @@
 -- Jobs that a transcript tells of: begun by one command, and run to their end by a later one.
-use Rattle.effect_laws.proofs.Words.{◌≡◌, ℕ, List, [], ◌∷◌, ◌++◌, length, ap, sym, subst, ◌∙◌, append_assoc, GetJob, DropJob, Answer, Put, Dropped, Event, Begin, Outcome, Begun, Ended, Moment, NoneBegan, IsPutBegin, Instruction, Once, RunJob, Touches, NoneUnderWay, IsFree, NoneAsksOn, steps_begin_none, Stored, GetEnds, PutsUnder, DroppedOut, ReadsAs, NonePuts, NoneIsBegun, job_behind, TellsJob}
+use Rattle.effect_laws.proofs.Words.{◌≡◌, ℕ, List, [], ◌∷◌, ◌++◌, length, sym, subst, append_assoc, GetJob, DropJob, Answer, Put, Dropped, Event, Begin, Outcome, Begun, Ended, Moment, NoneBegan, IsPutBegin, Instruction, Once, RunJob, Touches, NoneUnderWay, IsFree, NoneAsksOn, steps_begin_none, Stored, GetEnds, PutsUnder, DroppedOut, ReadsAs, NonePuts, NoneIsBegun, job_behind, TellsJob}
 use Rattle.effect_laws.proofs.Apart.{ends_apart}
 use Rattle.effect_laws.proofs.Asked.{none_for, none_on, none_begun, both_none, free_more}
 
@@ -27,10 +27,7 @@ tells middle between front event number how ms rs ts us E first second none =
       gap = R.1 ++ Q.later;
       begin = B.0;
       older = B.1;
-      moments = P.moments ∙ ap (λ l. P.later ++ l)
-          (R.3 ∙ ap (λ l. R.0 ∷ l)
-          (ap (λ l. R.1 ++ l) (Q.moments ∙ ap (λ l. Q.later ++ l) B.2)
-          ∙ sym (append_assoc R.1 Q.later (B.0 ∷ B.1))));
+      moments = cc (P.moments, R.3, Q.moments, B.2, append_assoc R.1 Q.later (B.0 ∷ B.1));
       begin_event = B.3;
       begun = B.4;
       none = both_begun number R.1 Q.later steps.0 (none_begun number between Q.later ts Q.owns none);
@@ -46,9 +43,11 @@ module _ (middle between front : List Instruction) (number : ℕ) (name : List �
     (rs us : List Outcome) where
   split : (event : Event) (how : Answer) (T : TellsJob middle between front event number how ms rs us) →
       ms ++ base ≡ T.later ++ T.end ∷ (T.gap ++ T.begin ∷ (T.older ++ base))
-  split event how T = ap (λ l. l ++ base) T.moments
-      ∙ (append_assoc T.later (T.end ∷ (T.gap ++ T.begin ∷ T.older)) base
-      ∙ ap (λ l. T.later ++ T.end ∷ l) (append_assoc T.gap (T.begin ∷ T.older) base))
+  split event how T = cc (
+    T.moments,
+    append_assoc T.later (T.end ∷ (T.gap ++ T.begin ∷ T.older)) base,
+    append_assoc T.gap (T.begin ∷ T.older) base,
+  )
 
   -- a put that ended well has stored its file
   pub stores : (event : Event) (bytes : List ℕ) → IsPutBegin event name bytes →

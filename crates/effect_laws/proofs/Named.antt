@@ -23,9 +23,8 @@ either_of p q (j ∷ js) = go (p j) (q j) (either_of p q js)
     go : (b c : Bool) → count_of (λ j. p j || q j) js ≤ count_of p js + count_of q js →
         cond (b || c) 1 0 + count_of (λ j. p j || q j) js
         ≤ cond b 1 0 + count_of p js + (cond c 1 0 + count_of q js)
-    go true c h = elim c as (λ d. cond (true || d) 1 0 + count_of (λ j. p j || q j) js
-        ≤ cond true 1 0 + count_of p js + (cond d 1 0 + count_of q js))
-        [ false ↦ omega (arith, h) | true ↦ omega (arith, h) ]
+    go true c h = elim c as (λ d. cond (true || d) 1 0 + count_of (λ j. p j || q j) js ≤ cond true 1 0 +
+        count_of p js + (cond d 1 0 + count_of q js)) [ false ↦ omega (arith, h) | true ↦ omega (arith, h) ]
     go false true h = omega (arith, h)
     go false false h = omega (arith, h)
 
@@ -33,6 +32,5 @@ either_of p q (j ∷ js) = go (p j) (q j) (either_of p q js)
 pub list_of : (ps : List ℕ) (a n : ℕ) → count_of (is_among ps) (range_with_len a n) ≤ length ps
 list_of [] a zero = omega arith
 list_of [] a (suc n) = (let h = list_of [] (a + 1) n in omega (arith, h))
-list_of (p ∷ ps) a n =
-    (let h = either_of (λ j. j == p) (is_among ps) (range_with_len a n) in
+list_of (p ∷ ps) a n = (let h = either_of (λ j. j == p) (is_among ps) (range_with_len a n) in
     let one = one_of p a n in let more = list_of ps a n in omega (arith, h, one, more))

@@ -1,5 +1,5 @@
 -- What may stand under a name, at each moment of a run, by the puts and drops of it that began.
-use Rattle.effect_laws.proofs.Words.{◌≡◌, ℕ, ◌+◌, ◌<◌, ◌≤◌, cond, List, [], ◌∷◌, ◌++◌, length, Option, Some, None, refl, ap, sym, subst, ◌∙◌, inl, inr, arith, cases_Bool, cases_lt, Record, PutStart, File, file_as, version_of, next_id, started_as, is_start_of, is_same_name, file_of, same-eq, Kind, PutJob, GetJob, DropJob, AuditJob, RepairJob, UpgradeJob, Job, job_of, WriteBody, Begun, State, Append, Doubt, IsStart, Writes, done_record, is_first_append, next_action, Moment, now, IsRun, IsBeginOf, cond_true, cond_false, Append_is, Doubt_is, Records_is, Changes, changes, objects, Draws, next_of_records, first_above, first_below, All, all, Came, came_all}
+use Rattle.effect_laws.proofs.Words.{◌≡◌, ℕ, ◌+◌, ◌<◌, ◌≤◌, cond, List, [], ◌∷◌, ◌++◌, length, Option, Some, None, refl, ap, sym, subst, inl, inr, arith, cases_Bool, cases_lt, Record, File, file_as, version_of, next_id, started_as, is_start_of, is_same_name, file_of, same-eq, Kind, PutJob, GetJob, DropJob, AuditJob, RepairJob, UpgradeJob, Job, job_of, WriteBody, Begun, State, Append, Doubt, IsStart, Writes, is_first_append, next_action, Moment, now, IsRun, IsBeginOf, Append_is, Doubt_is, Records_is, Changes, changes, objects, Draws, next_of_records, first_above, first_below, All, all, Came, came_all}
 use Rattle.machine_defs.proofs.Done.{profile_done, done-file}
 use Rattle.machine_defs.proofs.Fair.{PutAt, put_next, stores_count}
 use Rattle.run_laws.proofs.InEffect as effect
@@ -43,15 +43,13 @@ module _ (Fit : List ℕ → Type 0) (Absent : Type 0) (name : List ℕ) where
       (job.subject < next_id w.records) × (started_as w.records job.subject ≡ Some n)
       × (w.bytes job.subject ≡ bytes)) → Writes w job kind entry → Brings w entry
   written w job (PutJob n bytes) entry effect allows drawn writes = elim (cases_lt job.place 4) [
-    | inl l ↦ subst (Brings w)
-        (sym (writes ∙ cond_true (is_first_append job) (PutStart (next_id w.records) n)
-        (done_record (version_of w.records) job.subject (length bytes) job.profile) (first_below job l))) effect
-    | inr l ↦ subst (Brings w)
-        (sym (writes ∙ cond_false (is_first_append job) (PutStart (next_id w.records) n)
-        (done_record (version_of w.records) job.subject (length bytes) job.profile) (first_above job l)))
-        (subst (Fits w)
-        (sym (done-file (version_of w.records) job.subject (length bytes) job.profile w.records name))
-        (by_name (drawn n bytes refl l)))
+    | inl l ↦ rw (writes, first_below job l) effect
+    | inr l ↦ rw (
+      writes,
+      first_above job l,
+      done-file (version_of w.records) job.subject (length bytes) job.profile w.records name,
+    )
+        (by_name (drawn n bytes refl l))
   ]
     where
       brought : File
@@ -62,27 +60,20 @@ module _ (Fit : List ℕ → Type 0) (Absent : Type 0) (name : List ℕ) where
           (w.bytes job.subject ≡ bytes) → Fits w (cond (is_start_of name (started_as w.records job.subject))
           (Some brought) (file_of w.records name))
       by_name (below, started, own) = elim (cases_Bool (is_same_name n name)) [
-        | inl t ↦ subst (Fits w)
-            (sym (cond_true _ (Some brought) (file_of w.records name) (ap (is_start_of name) started ∙ t)))
-            (below, subst Fit (sym own) (allows (same-eq n name t)))
-        | inr f ↦ subst (Fits w)
-            (sym (cond_false _ (Some brought) (file_of w.records name) (ap (is_start_of name) started ∙ f)))
-            effect
+        | inl t ↦ rw (started, t) (below, subst Fit (sym own) (allows (same-eq n name t)))
+        | inr f ↦ rw (started, f) effect
       ]
   written w job (GetJob n) entry effect allows drawn writes = absurd writes
   written w job (DropJob n) entry effect allows drawn writes = elim (cases_Bool (is_same_name n name)) [
-    | inl t ↦ subst (Brings w) (sym writes)
-        (subst (Fits w) (sym (cond_true (is_same_name n name) None (file_of w.records name) t))
-        (allows (same-eq n name t)))
-    | inr f ↦ subst (Brings w) (sym writes)
-        (subst (Fits w) (sym (cond_false (is_same_name n name) None (file_of w.records name) f)) effect)
+    | inl t ↦ rw (writes, t) (allows (same-eq n name t))
+    | inr f ↦ rw (writes, f) effect
   ]
   written w job AuditJob entry effect allows drawn writes = elim (cases_Bool (is_first_append job)) [
-    | inl t ↦ subst (Brings w) (sym (let g = rw t at writes in g)) effect
-    | inr f ↦ (let g = rw f at writes in subst (Brings w) (sym g.2) effect)
+    | inl t ↦ (let g = rw t at writes in rw g effect)
+    | inr f ↦ (let g = rw f at writes in rw g.2 effect)
   ]
-  written w job RepairJob entry effect allows drawn writes = subst (Brings w) (sym writes) effect
-  written w job UpgradeJob entry effect allows drawn writes = subst (Brings w) (sym writes) effect
+  written w job RepairJob entry effect allows drawn writes = rw writes effect
+  written w job UpgradeJob entry effect allows drawn writes = rw writes effect
 
   module _ (limit : ℕ) (start : State) (m : Moment) (ms : List Moment) (run : IsRun limit start (m ∷ ms))
       (A : All start ms) (F : effect.Facts (now start ms))
@@ -134,8 +125,8 @@ module _ (Fit : List ℕ → Type 0) (Absent : Type 0) (name : List ℕ) where
         early : PutAt (now start ms) x bytes x.place WriteBody →
             x.place < 8 + stores_count (now start ms) x bytes
         early (PutAt.first l e) = absurd (omega arith)
-        early (PutAt.store l k is) = absurd is
         early (PutAt.second q is l e) = omega arith
+        early (PutAt.store l k is) = absurd is
         early (PutAt.after l is) = absurd is
 
     flight_step : (a : Append) → m.state.append ≡ Some a → Brings m.state a.entry
@@ -162,7 +153,7 @@ module _ (Fit : List ℕ → Type 0) (Absent : Type 0) (name : List ℕ) where
           | Came.fresh event outcome begun ↦ begins j k event outcome
         ]
 
-    pub offers_step : Offers m.state
+    offers_step : Offers m.state
     offers_step =
         record { effect = effect_step; flight = flight_step; doubt = doubt_step; jobs = jobs_step }
 

@@ -21,11 +21,8 @@ at_start Fit name start clean = record {
 -- the bytes of a file that may stand under a name fit
 pub stands_fit : (Fit : List ℕ → Type 0) (Absent : Type 0) (name : List ℕ) (w : State) (file : File) →
     Offers Fit Absent name w → MayStand w name file → Fit (w.bytes file.id)
-stands_fit Fit Absent name w file O (inl is) =
-    (let h : Fits Fit Absent name w (Some file) = subst (Fits Fit Absent name w) is O.effect in h.1)
-stands_fit Fit Absent name w file O (inr (d, in_doubt, is)) =
-    (let h : Fits Fit Absent name w (Some file) = subst (Fits Fit Absent name w) is (O.doubt d in_doubt) in
-    h.1)
+stands_fit Fit Absent name w file O (inl is) = (rw is at O.effect).1
+stands_fit Fit Absent name w file O (inr (d, in_doubt, is)) = (rw is at (O.doubt d in_doubt)).1
 
 -- where no bytes fit there is no file
 pub none_fit : (Absent : Type 0) (name : List ℕ) (w : State) (o : Option File) →
@@ -39,20 +36,18 @@ pub each_was_put : (Fit : List ℕ → Type 0) (Absent : Type 0) (name : List �
     (Absent ⊎ NoDropBegan name ms) → AllAllowed Fit Absent name ms
 each_was_put Fit Absent name front [] fits drops = tt
 each_was_put Fit Absent name front (m ∷ ms) fits drops = (
-  allowed_by Fit Absent name m
-      (λ bytes n event begun. fits bytes (record {
-        later = front;
-        begin = m;
-        before = ms;
-        number = n;
-        split = refl;
-        event = event;
-        begun = begun;
-      }))
+  allowed_by Fit Absent name m (λ bytes n event begun. fits bytes (record {
+    later = front;
+    begin = m;
+    before = ms;
+    number = n;
+    split = refl;
+    event = event;
+    begun = begun;
+  }))
       (λ on n begun. elim drops [ inl absent ↦ absent | inr none ↦ absurd (none.0 on n begun) ]),
   each_was_put Fit Absent name (front ++ m ∷ []) ms
-      (λ bytes put. fits bytes
-      (subst (λ l. WasPut l name bytes) (append_assoc front (m ∷ []) ms) put))
+      (λ bytes put. fits bytes (subst (λ l. WasPut l name bytes) (append_assoc front (m ∷ []) ms) put))
       (elim drops [ inl absent ↦ inl absent | inr none ↦ inr none.1 ]),
 )
 
@@ -61,22 +56,19 @@ pub from_start : (Fit : List ℕ → Type 0) (limit : ℕ) (start : State) (ms :
     IsStart start → IsRun limit start ms → AllAllowed Fit (Unit {0}) name ms →
     Offers Fit (Unit {0}) name (now start ms)
 from_start Fit limit start ms name clean run allowed =
-    subst (λ l. Offers Fit (Unit {0}) name (now start l)) (append-nil ms)
-    (offers Fit (Unit {0}) name limit start clean ms []
-    (subst (IsRun limit start) (sym (append-nil ms)) run) (at_start Fit name start clean) allowed)
+    rw append-nil at (offers Fit (Unit {0}) name limit start clean ms [] (rw append-nil run)
+    (at_start Fit name start clean) allowed)
 
 -- a file that may stand under a name is that of a put
 pub was_put : (limit : ℕ) (start : State) (ms : List Moment) (name : List ℕ) (file : File) → IsStart start →
     IsRun limit start ms → MayStand (now start ms) name file → WasPut ms name ((now start ms).bytes file.id)
-was_put limit start ms name file clean run stands =
-    stands_fit (WasPut ms name) (Unit {0}) name (now start ms) file
-    (from_start (WasPut ms name) limit start ms name clean run
+was_put limit start ms name file clean run stands = stands_fit (WasPut ms name) (Unit {0}) name (now start ms)
+    file (from_start (WasPut ms name) limit start ms name clean run
     (each_was_put (WasPut ms name) (Unit {0}) name [] ms (λ bytes put. put) (inl tt))) stands
 
 -- a name that nobody put has no file
 pub none_put_none : (limit : ℕ) (start : State) (ms : List Moment) (name : List ℕ) → IsStart start →
     IsRun limit start ms → NoPutBegan name ms → file_in (now start ms) name ≡ None
-none_put_none limit start ms name clean run none =
-    none_fit (Unit {0}) name (now start ms) (file_in (now start ms) name)
-    (from_start (λ bytes. ⊥) limit start ms name clean run
+none_put_none limit start ms name clean run none = none_fit (Unit {0}) name (now start ms)
+    (file_in (now start ms) name) (from_start (λ bytes. ⊥) limit start ms name clean run
     (none_put (λ bytes. ⊥) (Unit {0}) name ms tt none)).effect

@@ -1,5 +1,5 @@
 -- Whom commands damage, and that no job of theirs of some kinds is under way behind them.
-use Rattle.effect_laws.proofs.Words.{◌≡◌, ℕ, List, [], ◌∷◌, ◌++◌, refl, sym, ap, subst, ◌∙◌, inl, inr, append_assoc, In, Kind, Answer, GivesUp, Step, Outcome, Begun, Ended, Moment, Instruction, Once, RunJob, RunsToEnd, Touches, IsBeginFor, NoneBeganFor, NoneUnderWay, IsRead, ReadsAs, LeavesFree, AreOverFor}
+use Rattle.effect_laws.proofs.Words.{◌≡◌, ℕ, List, [], ◌∷◌, ◌++◌, refl, sym, ap, subst, ◌∙◌, inl, inr, append_assoc, In, Kind, Answer, GivesUp, Step, Outcome, Begun, Ended, Moment, Instruction, Once, RunJob, RunsToEnd, Touches, IsBeginFor, NoneBeganFor, NoneUnderWay, ReadsAs, LeavesFree, AreOverFor}
 use Rattle.machine_defs.specs.Damaged.{IsAmong, DamagesOnly, AsksDamageOf}
 use Rattle.effect_laws.proofs.Asked.{steps_none, both_none, each_read}
 
@@ -10,16 +10,6 @@ damages ps = each_read (DamagesOnly ps) (λ cs rs. AsksDamageOf ps cs) tt
     (λ job m ms event outcome q. (subst (IsAmong ps) (sym event) tt, q))
     (λ event cs m r rs here outcome asks. (asks.1, λ ms q. (subst (IsAmong ps) (sym here) asks.0, q)))
     (λ job cs m r rs step outcome asks. (asks, λ ms q. (subst (IsAmong ps) (sym step) tt, q)))
-
--- a job's last moment and its steps come apart from what is newer
-run-apart : (newer : List Moment) (m : Moment) (steps older base : List Moment) →
-    (newer ++ m ∷ steps) ++ (older ++ base) ≡ newer ++ (m ∷ (steps ++ older) ++ base)
-run-apart newer m steps older base = append_assoc newer (m ∷ steps) (older ++ base)
-    ∙ ap (λ l. newer ++ m ∷ l) (sym (append_assoc steps older base))
-
--- an outcome is read as a begin only where it is one
-begin_read : (x : Outcome) (n : ℕ) → IsRead x (Begun n) → x ≡ Begun n
-begin_read x n is = is
 
 -- ---- jobs of some kinds
 
@@ -93,8 +83,7 @@ module _ (Meant : Kind → Type 0) where
   -- a job whose end stands among the newer moments, and that began before them
   ended-there : (newer older : List Moment) (b : Moment) (n : ℕ) → NoneBeganFor Meant newer → HasEnd n newer →
       b.outcome ≡ Begun n → NoneUnderWay Meant older → NoneUnderWay Meant (newer ++ b ∷ older)
-  ended-there newer older b n none H begun free =
-      (let parts = subst (NoneBeganFor Meant) H.is none in
+  ended-there newer older b n none H begun free = (let parts = subst (NoneBeganFor Meant) H.is none in
       subst (NoneUnderWay Meant) (sym (ap (λ l. l ++ b ∷ older) H.is
       ∙ append_assoc H.later (H.end ∷ H.between) (b ∷ older)))
       (none_more H.later (H.end ∷ (H.between ++ b ∷ older)) (front-none H.later (H.end ∷ H.between) parts)
@@ -113,34 +102,26 @@ module _ (Meant : Kind → Type 0) where
   closed : (base : List Moment) → NoneUnderWay Meant base → (cs : List Instruction) (ms : List Moment)
       (rs : List Outcome) (ran : List ℕ) (newer : List Moment) → ReadsAs cs ms rs → AreOverFor Meant ran cs rs →
       Closes ran newer → NoneUnderWay Meant (newer ++ (ms ++ base))
-  closed base free [] ms [] ran newer is is_over C =
-      subst (λ l. NoneUnderWay Meant (newer ++ (l ++ base))) (sym is) (none_more newer base C.none free)
+  closed base free [] ms [] ran newer is is_over C = rw is (none_more newer base C.none free)
   closed base free (Once event ∷ cs) ms (r ∷ rs) ran newer (b, older, is, here, outcome, more) (inl up) C =
-      subst (λ l. NoneUnderWay Meant (newer ++ (l ++ base))) (sym is) (none_more newer (b ∷ (older ++ base)) C.none
+      rw is (none_more newer (b ∷ (older ++ base)) C.none
       (NoneUnderWay.given_up b (older ++ base) (subst GivesUp (sym here) up)))
   closed base free (Once event ∷ cs) ms (r ∷ rs) ran newer (b, older, is, here, outcome, more)
-      (inr (inl (none, rest))) C =
-      subst (λ l. NoneUnderWay Meant (newer ++ (l ++ base))) (sym is)
-      (subst (NoneUnderWay Meant) (append_assoc newer (b ∷ []) (older ++ base))
-      (closed base free cs older rs ran (newer ++ b ∷ []) more rest (closes-more ran newer (b ∷ []) C
-      ((λ t n begun. none (subst (IsBeginFor Meant) here t)), tt))))
+      (inr (inl (none, rest))) C = rw (is, ← append_assoc newer (b ∷ []) (older ++ base)) (
+      closed base free cs older rs ran (newer ++ b ∷ []) more rest (closes-more ran newer (b ∷ []) C
+      ((λ t n begun. none (rw here at t)), tt)))
   closed base free (Once event ∷ cs) ms (r ∷ rs) ran newer (b, older, is, here, outcome, more)
-      (inr (inr (n, among, begun, rest))) C =
-      subst (λ l. NoneUnderWay Meant (newer ++ (l ++ base))) (sym is)
-      (ended-there newer (older ++ base) b n C.none (C.ends n among)
-      (begin_read b.outcome n (subst (IsRead b.outcome) begun outcome))
+      (inr (inr (n, among, begun, rest))) C = rw is (ended-there newer (older ++ base) b n C.none
+      (C.ends n among) (rw begun at outcome)
       (closed base free cs older rs [] [] more rest (record { none = tt; ends = λ n h. absurd h })))
   closed base free (RunJob job ∷ cs) ms (Ended how ∷ rs) ran newer (m, steps, older, is, runs, outcome, more)
-      is_over C =
-      subst (λ l. NoneUnderWay Meant (newer ++ (l ++ base))) (sym is)
-      (subst (NoneUnderWay Meant) (run-apart newer m steps older base)
-      (closed base free cs older rs (job ∷ ran) (newer ++ m ∷ steps) more is_over
-      (closes-job ran newer job m steps how C runs outcome)))
+      is_over C = rw (is, append_assoc steps older base, ← append_assoc newer (m ∷ steps) (older ++ base)) (
+      closed base free cs older rs (job ∷ ran) (newer ++ m ∷ steps) more is_over
+      (closes-job ran newer job m steps how C runs outcome))
   closed base free (RunJob job ∷ cs) ms (r ∷ rs) ran newer (m, steps, older, is, runs, outcome, more) is_over C =
-      subst (λ l. NoneUnderWay Meant (newer ++ (l ++ base))) (sym is)
-      (subst (NoneUnderWay Meant) (run-apart newer m steps older base)
-      (closed base free cs older rs ran (newer ++ m ∷ steps) more is_over
-      (closes-more ran newer (m ∷ steps) C (run-none job m steps runs))))
+      rw (is, append_assoc steps older base, ← append_assoc newer (m ∷ steps) (older ++ base)) (
+      closed base free cs older rs ran (newer ++ m ∷ steps) more is_over
+      (closes-more ran newer (m ∷ steps) C (run-none job m steps runs)))
   closed base free cs ms rs ran newer E is_over C = absurd E
 
   pub over : (cs : List Instruction) (ms base : List Moment) (rs : List Outcome) → ReadsAs cs ms rs →

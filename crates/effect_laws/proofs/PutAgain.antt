@@ -1,5 +1,5 @@
 -- A file that is put, put again and dropped: the run of it, and what its text tells.
-use Rattle.effect_laws.proofs.Words.{◌≡◌, ℕ, ◌<◌, ◌^◌, List, [], ◌∷◌, ◌++◌, refl, inl, inr, arith, sym, subst, ap, ◌∙◌, append_assoc, append-nil, digits, AllByRecursion, PutJob, DropJob, actions_of, Put, Dropped, Begin, BeginAt, Reopen, Names, Opened, Listed, set_up, IsPutBegin, run_back, Moment, IsRun, IsStart, setup_in, Once, CarriesOut, NoneUnderWay, IsFree, lines_of_all, Stored, PutsUnder, Drops, NoPutBegan, DroppedOut, IsToldByLines, NoneCalls, ReadsAs, EndsApart, TellsJob, name, byte, other, told_file, first_commands, put_commands, commands, again_commands, again_outcomes, PutsAgain, first_outcomes, put_outcomes, outcomes, first, second, instructions, moments}
+use Rattle.effect_laws.proofs.Words.{◌≡◌, ℕ, ◌<◌, ◌^◌, List, [], ◌∷◌, ◌++◌, refl, inl, inr, arith, sym, subst, ◌∙◌, append_assoc, append-nil, digits, AllByRecursion, PutJob, DropJob, actions_of, Put, Dropped, Begin, Reopen, Names, Opened, Listed, set_up, IsPutBegin, run_back, Moment, IsRun, IsStart, setup_in, Once, CarriesOut, NoneUnderWay, IsFree, lines_of_all, Stored, PutsUnder, Drops, NoPutBegan, DroppedOut, IsToldByLines, NoneCalls, ReadsAs, EndsApart, TellsJob, name, byte, other, told_file, first_commands, put_commands, commands, again_commands, again_outcomes, PutsAgain, first_outcomes, put_outcomes, outcomes, first, second, instructions, moments}
 use Rattle.record_defs.specs.Examples.{four}
 use Rattle.made_runs.specs.Instructions.{AreFit}
 use Rattle.made_runs.proofs.Instructions.{are-run}
@@ -97,9 +97,8 @@ module _ (ms : List Moment) (E : ReadsAs first_commands ms first_outcomes) where
 
   -- the first put has stored its file
   is-stored : Stored ms name byte
-  is-stored = subst (λ l. Stored l name byte) (append-nil ms)
-      (stores [] [] (Once Reopen ∷ []) 1 name ms [] [] (Opened ∷ []) (Begin (PutJob name byte)) byte (inl refl)
-      first-told tt tt free-first)
+  is-stored = subst (λ l. Stored l name byte) (append-nil ms) (stores [] [] (Once Reopen ∷ []) 1 name ms [] []
+      (Opened ∷ []) (Begin (PutJob name byte)) byte (inl refl) first-told tt tt free-first)
 
 -- the name is free before the drop, so that has taken it out
 free-drop : IsFree name (drop-told.older ++ [])
@@ -127,7 +126,7 @@ is-again = record {
   stored = is-stored apart.older apart.rest;
   puts = puts_only name other again_commands apart.later again_outcomes apart.owns (
     (λ q is. absurd (no_begin q is)),
-    ((λ q is. same-bytes q is), tt),
+    (same-bytes, tt),
   );
   drops = none_for (Drops name) again_commands apart.later again_outcomes apart.owns
       ((λ on. on), ((λ on. on), tt));
@@ -135,20 +134,18 @@ is-again = record {
   where
     split : drop-told.later ++ drop-told.end ∷ (drop-told.gap ++ drop-told.begin ∷ drop-told.older)
         ≡ (drop-told.later ++ drop-told.end ∷ (drop-told.gap ++ drop-told.begin ∷ [])) ++ drop-told.older
-    split = sym (append_assoc drop-told.later (drop-told.end ∷ (drop-told.gap ++ drop-told.begin ∷ []))
-        drop-told.older
-        ∙ ap (λ l. drop-told.later ++ drop-told.end ∷ l)
-        (append_assoc drop-told.gap (drop-told.begin ∷ []) drop-told.older))
+    split = cc (
+      append_assoc drop-told.later (drop-told.end ∷ (drop-told.gap ++ drop-told.begin ∷ [])) drop-told.older,
+      append_assoc drop-told.gap (drop-told.begin ∷ []) drop-told.older,
+    )
 
     no_begin : (q : List ℕ) → IsPutBegin Names name q → ⊥
-    no_begin q (inl is) = (let e : Names ≡ Begin (PutJob name q) = is in cc)
-    no_begin q (inr (profile, is)) = (let e : Names ≡ BeginAt profile name q = is in cc)
+    no_begin q (inl is) = cc is
+    no_begin q (inr (profile, is)) = cc is
 
     same-bytes : (q : List ℕ) → IsPutBegin (Begin (PutJob name other)) name q → q ≡ other
-    same-bytes q (inl is) = (let e : Begin (PutJob name other) ≡ Begin (PutJob name q) = is in
-        let f : other ≡ q = cc in sym f)
-    same-bytes q (inr (profile, is)) =
-        absurd (let e : Begin (PutJob name other) ≡ BeginAt profile name q = is in cc)
+    same-bytes q (inl is) = (let e : Begin (PutJob name other) ≡ Begin (PutJob name q) = is in cc)
+    same-bytes q (inr (profile, is)) = absurd (cc is)
 
 -- nobody put another name
 pub none-other : NoPutBegan (98 ∷ []) moments

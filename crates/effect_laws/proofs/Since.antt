@@ -1,20 +1,17 @@
 -- What stands under a name since a put of it ended well.
-use Rattle.effect_laws.proofs.Words.{◌≡◌, ◌⊎◌, ℕ, List, [], ◌∷◌, ◌++◌, length, Option, Some, None, refl, sym, subst, inl, inr, File, file_of, Kind, PutJob, DropJob, Job, job_of, Put, State, IsStart, file_in, with_doubt, Moment, now, IsRun, Touches, NoneOn, all, none_under_way, none_left, run_back, Stored, IsLimit, run-sound, WasPut, PutsOnly, NoDropBegan, MayStand, HasFile}
+use Rattle.effect_laws.proofs.Words.{◌≡◌, ◌⊎◌, ℕ, List, [], ◌∷◌, ◌++◌, length, Option, Some, None, refl, sym, subst, inl, inr, File, file_of, Kind, PutJob, DropJob, Put, State, IsStart, file_in, with_doubt, Moment, now, IsRun, Touches, all, none_under_way, none_left, run_back, Stored, IsLimit, run-sound, WasPut, PutsOnly, NoDropBegan, MayStand, HasFile}
 use Rattle.run_laws.proofs.ByEvents.{stored_is_kept}
 use Rattle.effect_laws.proofs.Offers.{Fits, Allows, Offers, offers}
 use Rattle.effect_laws.proofs.Allowed.{none_touched}
 use Rattle.effect_laws.proofs.Origin.{stands_fit, each_was_put}
 use Rattle.effect_laws.proofs.Steady.{goes_on, steady}
 
--- where no job on the name runs, each is allowed
-none_run : (Fit : List ℕ → Type 0) (Absent : Type 0) (name : List ℕ) (w : State) → NoneOn name w → (k : ℕ)
-    (j : Job) → job_of w.jobs k ≡ Some j → Allows Fit Absent name j.kind
-none_run Fit Absent name w none k j at = by_kind j.kind refl
-  where
-    by_kind : (kd : Kind) → j.kind ≡ kd → Allows Fit Absent name kd
-    by_kind (PutJob q bytes) is = λ same. absurd (none k j at (subst (Touches name) (sym is) same))
-    by_kind (DropJob q) is = λ same. absurd (none k j at (subst (Touches name) (sym is) same))
-    by_kind kd is = tt
+-- a job that does not touch the name is allowed
+untouched : (Fit : List ℕ → Type 0) (Absent : Type 0) (name : List ℕ) (kind : Kind) → (Touches name kind → ⊥) →
+    Allows Fit Absent name kind
+untouched Fit Absent name (PutJob q bytes) none = λ same. absurd (none same)
+untouched Fit Absent name (DropJob q) none = λ same. absurd (none same)
+untouched Fit Absent name kind none = tt
 
 -- at the end of the put, and until another put or drop of the name begins
 pub stored_offers : (Fit : List ℕ → Type 0) (Absent : Type 0) (limit : ℕ) (start : State) (ms : List Moment)
@@ -54,9 +51,8 @@ stored_offers Fit Absent limit start ms name bytes fits clean run S fit =
     (run-sound limit start (S.end ∷ old) fits clean end_run) on
     (subst (Fits Fit Absent name (now start (S.end ∷ old))) (sym K.kept.in_effect)
     (below, subst Fit (sym K.bytes_are) fit))
-    (none_run Fit Absent name S.end.state none) in
-    subst (λ hs. Offers Fit Absent name (now start hs)) (sym S.split)
-    (offers Fit Absent name limit start clean S.later (S.end ∷ old) all_run at_end
+    (λ k j h. untouched Fit Absent name j.kind (none k j h)) in
+    rw S.split (offers Fit Absent name limit start clean S.later (S.end ∷ old) all_run at_end
     (none_touched Fit Absent name S.later S.none_since)))
 
 -- the stored bytes, or those of a put since

@@ -1,6 +1,6 @@
 -- While a vault goes on, what stands under a name fits, also with what is in flight and in doubt, where it does
 -- so in effect and each running job is allowed.
-use Rattle.effect_laws.proofs.Words.{◌≡◌, ℕ, ◌<◌, ◌≤◌, ◌==◌, Bool, true, false, List, Option, Some, None, refl, ap, sym, subst, ◌∙◌, arith, eq-eqb, some-not-none, next_id, started_as, file_of, PutJob, AuditJob, Job, job_of, Action, WriteBody, SyncBody, WriteGate, SyncGate, Store, Work, End, actions_left, appends_left, Answer, Event, Step, Outcome, Ended, State, Append, Doubt, setup_in, ended, Moves, Acts, Happens, cond_true, HasFailed, alone_fails, IsDoubtOf, IsGatedDoubt, IsSoundAppend, IsSound}
+use Rattle.effect_laws.proofs.Words.{◌≡◌, ℕ, ◌<◌, ◌≤◌, ◌==◌, Bool, true, false, List, Option, Some, None, refl, ap, sym, subst, ◌∙◌, arith, eq-eqb, some-not-none, next_id, started_as, file_of, PutJob, AuditJob, Job, job_of, Action, WriteBody, SyncBody, WriteGate, SyncGate, Store, Work, End, actions_left, appends_left, Answer, Event, Step, Outcome, Ended, State, Append, Doubt, setup_in, ended, Moves, Acts, Happens, HasFailed, alone_fails, IsDoubtOf, IsGatedDoubt, IsSoundAppend, IsSound}
 use Rattle.machine_defs.specs.Answers as answer
 use Rattle.machine_defs.specs.Alone.{StepsAlone}
 use Rattle.machine_defs.specs.Begins.{beginning}
@@ -71,8 +71,7 @@ module _ (Fit : List ℕ → Type 0) (Absent : Type 0) (name : List ℕ) (limit 
 
       left : 0 < appends_left (setup_in w) A.job
       left = (let J = S.jobs a.job A.job A.runs in
-          let made : moves_made w.append a.job ≡ a.moves =
-          ap (λ f. moves_made f a.job) h ∙ cond_true (a.job == a.job) a.moves 0 (eq-eqb a.job a.job refl) in
+          let made : moves_made w.append a.job ≡ a.moves = rw (h, eq-eqb a.job a.job refl) in
           let b = A.begun in
           appends-order (moves_made w.append a.job) (actions_left (setup_in w) A.job) (omega (arith, made, b))
           J.order)
@@ -93,8 +92,7 @@ module _ (Fit : List ℕ → Type 0) (Absent : Type 0) (name : List ℕ) (limit 
       by_moves a false flight none = absurd (some-not-none w.doubt d h none)
       by_moves a true flight (e, in_doubt, is) =
           (let f : Some e ≡ Some d = sym in_doubt ∙ h in let g : e ≡ d = cc in
-          subst (λ (x : Doubt). Brings Fit Absent name w x.entry) g
-          (subst (Brings Fit Absent name w) (sym is) (flies a flight)))
+          rw (← g, is) (flies a flight))
 
       by_flight : (flight : Option Append) → w.append ≡ flight → IsDoubtOf flight w.doubt →
           Brings Fit Absent name w d.entry

@@ -1,5 +1,5 @@
 -- Tests tell what commands ask for.
-use Rattle.effect_laws.proofs.Words.{◌≡◌, ℕ, Bool, true, List, [], ◌∷◌, ap, sym, subst, ◌∙◌, inl, inr, and_parts, false≢true, is_same_name, same-eq, same-refl, Kind, PutJob, DropJob, Event, Begin, BeginAt, IsPutBegin, Instruction, Once, RunJob, Touches, IsBeginFor, NoneAsksOn, cond_true, PutsUnder, Drops, NoneAsksFor, NonePuts, NoneDrops, AsksPutsOnly}
+use Rattle.effect_laws.proofs.Words.{◌≡◌, ℕ, Bool, true, List, [], ◌∷◌, ap, sym, subst, ◌∙◌, inl, inr, and_parts, false≢true, is_same_name, same-eq, same-refl, Kind, PutJob, DropJob, Event, Begin, BeginAt, IsPutBegin, Instruction, Once, RunJob, Touches, IsBeginFor, NoneAsksOn, PutsUnder, Drops, NoneAsksFor, NonePuts, NoneDrops, AsksPutsOnly}
 use Rattle.std.proofs.Common.{not}
 use Rattle.effect_laws.specs.Tests.{touches, puts_under, drops, asks, asks_none, puts_same, asks_puts_only}
 
@@ -55,12 +55,8 @@ tested_drops name cs test = none_tested (Drops name) (drops name) (dropped name)
 -- a put of the name is of these bytes
 own_bytes : (name bytes other : List ℕ) (event : Event) → puts_same name bytes event ≡ true →
     IsPutBegin event name other → other ≡ bytes
-own_bytes name bytes other event test (inl is) = same-eq other bytes
-    (sym (cond_true (is_same_name name name) (is_same_name other bytes) true (same-refl name))
-    ∙ (ap (puts_same name bytes) (sym is) ∙ test))
-own_bytes name bytes other event test (inr (profile, is)) = same-eq other bytes
-    (sym (cond_true (is_same_name name name) (is_same_name other bytes) true (same-refl name))
-    ∙ (ap (puts_same name bytes) (sym is) ∙ test))
+own_bytes name bytes other event test (inl is) = same-eq other bytes (rw (is, same-refl name) at test)
+own_bytes name bytes other event test (inr (profile, is)) = same-eq other bytes (rw (is, same-refl name) at test)
 
 pub tested_only : (name bytes : List ℕ) (cs : List Instruction) → asks_puts_only name bytes cs ≡ true →
     AsksPutsOnly name bytes cs

@@ -92,9 +92,8 @@ module _ (limit : ℕ) (start : State) (base : List Moment) (clean : IsStart sta
         jobs = few-damaged.few_calm limit (scrubbed start) start ps clean (more ++ (ms ++ base)) run all few.0;
         scrubs = few-damaged.few_scrubs limit (scrubbed start) start ps clean (more ++ (ms ++ base)) run all few.0;
       })
-  chain _ _ _ ms more
-      (ByScrubs.swept qs named behind front rs us s stripes symbols blocks many asks B) E before only run few =
-      (let P = parts base ms behind front rs us s stripes symbols blocks E many in
+  chain _ _ _ ms more (ByScrubs.swept qs named behind front rs us s stripes symbols blocks many asks B) E
+      before only run few = (let P = parts base ms behind front rs us s stripes symbols blocks E many in
       let older : List Moment = P.first ++ base in
       let all : more ++ (ms ++ base) ≡ (more ++ P.new) ++ (P.recent ++ older) =
       ap (λ l. more ++ l) P.whole ∙ sym (append_assoc more P.new (P.recent ++ older)) in
@@ -120,9 +119,8 @@ module _ (limit : ℕ) (start : State) (base : List Moment) (clean : IsStart sta
       (ms : List Moment) → AllTell start → IsRun limit start (ms ++ base) → ReadsAs commands ms outcomes →
       ByScrubs named commands outcomes → DamagesOnly (oldest named) base → AreFew named (now start (ms ++ base)) →
       IsMarkedRun limit (scrubbed start) start (ms ++ base)
-  chain-marked named commands outcomes ms tell run E B before few =
-      scrub_marked limit start (ms ++ base) clean tell run
-      (chain-calm named commands outcomes ms run E B before few)
+  chain-marked named commands outcomes ms tell run E B before few = scrub_marked limit start (ms ++ base)
+      clean tell run (chain-calm named commands outcomes ms run E B before few)
 
   -- who is not of the newest list holds its own blocks
   exact-in : (qs : List ℕ) (named : List (List ℕ)) (all : List (List ℕ)) (commands : List Instruction)

@@ -56,8 +56,7 @@ module _ (limit : ℕ) (start : State) (clean : IsStart start) (from : ℕ) (bas
     pub goes_on : (later : List Moment) → IsRun limit start (later ++ base) → DamagesOnly qs later →
         AreFew qs (now start (later ++ base)) → IsScrubCalm start (later ++ base)
     goes_on [] run only few = calm
-    goes_on (m ∷ later) run only few =
-        (let before = goes_on later run.2 only.1
+    goes_on (m ∷ later) run only few = (let before = goes_on later run.2 only.1
         (few_before limit start m (later ++ base) qs clean run few) in
         record {
           jobs = (
@@ -76,8 +75,7 @@ module _ (limit : ℕ) (start : State) (clean : IsStart start) (from : ℕ) (bas
 pub parts_only : (qs : List ℕ) (later recent : List Moment) → DamagesOnly qs (later ++ recent) →
     DamagesOnly qs later × DamagesOnly qs recent
 parts_only qs [] recent only = (tt, only)
-parts_only qs (m ∷ later) recent only =
-    (let p = parts_only qs later recent only.1 in ((only.0, p.0), p.1))
+parts_only qs (m ∷ later) recent only = (let p = parts_only qs later recent only.1 in ((only.0, p.0), p.1))
 
 -- few are at each start of a run where they are at its end
 pub few_first : (limit : ℕ) (start : State) (ps : List ℕ) → IsStart start → (later ms : List Moment) →

@@ -61,8 +61,7 @@ module _ (limit : ℕ) (mark : Mark) (start : State) (base : List Moment) (from 
       replaced_count m.state (next (first_moments begun (m ∷ (later ++ base)))) (m ∷ (later ++ base))
       ≤ (setup_in m.state).b
   unfolding next
-  few_on m later begun late only few =
-      (let all = m ∷ (later ++ base) in
+  few_on m later begun late only few = (let all = m ∷ (later ++ base) in
       let n = no_fewer later base in
       let is = moved (length base) from mark (first_moments begun all)
       (first_enough (length base) begun all late (omega arith)) in
@@ -74,8 +73,7 @@ module _ (limit : ℕ) (mark : Mark) (start : State) (base : List Moment) (from 
       AreFew qs (now start (later ++ base)) → GoesOn limit next start (later ++ base) from
   unfolding next
   goes_on [] run only few = first
-  goes_on (m ∷ later) run only few =
-      (let all = later ++ base in
+  goes_on (m ∷ later) run only few = (let all = later ++ base in
       let p = goes_on later run.2 only.1 (few_before limit start m all qs h.clean run few) in
       let moment = mark_stays limit next start m all p.marked p.scrubs run from p.moment in
       let n = no_fewer later base in record {

@@ -23,8 +23,7 @@ module _ (limit : ℕ) (start : State) (clean : IsStart start) (tell : AllTell s
   swept : (ms : List Moment) → IsRun limit start ms → IsScrubCalm start ms → (scrub : Scrub) →
       (now start ms).alone ≡ Some (Scrubbing scrub) → Swept start ms scrub
   swept [] run calm scrub at = absurd (some-not-none start.alone (Scrubbing scrub) at clean.none_alone)
-  swept (m ∷ ms) run calm scrub at =
-      (let A = all limit start clean ms run.2 in
+  swept (m ∷ ms) run calm scrub at = (let A = all limit start clean ms run.2 in
       swept_step limit (scrubbed start) start m ms A (eff.facts limit start ms clean run.2)
       (changes limit (length ms) (now start ms) m.event m.outcome m.state A.numbers.idle run.1)
       (all_tell limit start ms tell run.2)

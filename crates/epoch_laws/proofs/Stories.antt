@@ -40,8 +40,7 @@ pub kept : (limit : ℕ) (start : State) (base ms : List Moment) (front middle :
     AsksDamageOf ps (middle ++ done_by (put_event own name bytes) p front) →
     Gives start base ms name bytes g how (ps ∷ [])
 kept limit start base ms front middle us ts name bytes own p g ps how clean tell run E many leaves free asks
-    before names =
-    (let put = done_by (put_event own name bytes) p front in
+    before names = (let put = done_by (put_event own name bytes) p front in
     let G = back base ms front middle us ts name bytes own p g how E many leaves free asks in (
       G,
       λ few. gives name bytes g how base ms limit (λ moments. 0) start G (few_marked limit start (ms ++ base) ps clean tell run
@@ -118,8 +117,7 @@ module _ (limit : ℕ) (start : State) (base ms : List Moment) (front middle beh
       (damages qs (done_by BeginScrub s []) recent
       (Ended (Scrubbed stripes symbols blocks) ∷ Begun s ∷ []) recent_reads (tt, tt)) in (
         G,
-        λ few.
-            (let few_old = subst (λ l. length ps ≤ (setup_in (now start l)).b) all few.0 in
+        λ few. (let few_old = subst (λ l. length ps ≤ (setup_in (now start l)).b) all few.0 in
             let few_new = subst (λ l. length qs ≤ (setup_in (now start l)).b) all few.1.0 in
             let calm_old : IsScrubCalm start (recent ++ older) = calm-up limit start new (recent ++ older) ps clean
             whole_run old_only few_old in
@@ -206,8 +204,7 @@ module _ (limit : ℕ) (start : State) (base ms : List Moment) (front middle bet
     pub rest : ReadsAs put_first older put_outcomes
 
   mends : (ks : List Moment) → ReadsAs repair_first ks repair_outcomes → length vs ≡ length between → Mends ks
-  mends ks E many =
-      (let B = E.6 in
+  mends ks E many = (let B = E.6 in
       let A = ends_apart between audit_first B.1 vs audit_outcomes B.5 many in
       let Q = A.rest in
       let C = Q.6 in record {

@@ -158,8 +158,7 @@ ends_scrub : (limit : ℕ) (start : State) (m : Moment) (ms : List Moment) (k a 
     EndsScrub (now start ms) m.state k a xs ys
 ends_scrub limit start m ms k a xs ys clean run event over = opened (now start ms) m.state k a xs ys
     (λ job runs. no_kind (now start ms) m.state k a xs ys job.kind
-    (job_ends_so limit start m ms k job (Scrubbed a xs ys) clean run runs event over))
-    (now start ms).is_open
+    (job_ends_so limit start m ms k job (Scrubbed a xs ys) clean run runs event over)) (now start ms).is_open
     (subst (λ (r : Outcome). Happens limit (length ms) (now start ms) (Step k) r m.state) over
     (subst (λ (e : Event). Happens limit (length ms) (now start ms) e m.outcome m.state) event run.1))
 
@@ -175,8 +174,7 @@ module _ (limit : ℕ) (start : State) (clean : IsStart start) where
       IsRun limit start (end ∷ (sweeping ++ b ∷ older)) → b.event ≡ BeginScrub → b.outcome ≡ Begun k →
       NoneBegan k sweeping → end.event ≡ Step k → end.outcome ≡ Ended (Scrubbed a xs ys) →
       IsOver start older (end ∷ (sweeping ++ b ∷ older))
-  over end b sweeping older k a xs ys run begins begun none event ended =
-      (let ms = sweeping ++ b ∷ older in
+  over end b sweeping older k a xs ys run begins begun none event ended = (let ms = sweeping ++ b ∷ older in
       let E = ends_scrub limit start end ms k a xs ys clean run event ended in record {
         mark = ap (λ r. mark_scrubbed (now start ms).alone r (scrubbed start ms)) ended
             ∙ (ap (λ x. mark_scrubbed x (Ended (Scrubbed a xs ys)) (scrubbed start ms)) E.1

@@ -129,8 +129,7 @@ module _ (name : List ℕ) (g : ℕ) (how : Answer) (behind front : List Instruc
 
     pub got-back : (bytes : List ℕ) → Stored (P.apart.older ++ base) name bytes → NoneAsksOn name behind →
         GotBack base ms name bytes g how
-    got-back bytes S asks =
-        (let stored = subst (λ l. Stored l name bytes) (sym all-before)
+    got-back bytes S asks = (let stored = subst (λ l. Stored l name bytes) (sym all-before)
         (stored-more name bytes P.apart.later (P.apart.older ++ base)
         (none_on name behind P.apart.later rs P.apart.owns asks) S) in
         let own : List Moment = P.last ∷ (P.gaps ++ P.begin ∷ []) in record {
@@ -159,7 +158,6 @@ module _ (name : List ℕ) (g : ℕ) (how : Answer) (behind front : List Instruc
 pub gives : (name bytes : List ℕ) (g : ℕ) (how : Answer) (base ms : List Moment) (limit : ℕ) (mark : Mark)
     (start : State) (G : GotBack base ms name bytes g how) → IsMarkedRun limit mark start (ms ++ base) →
     IsWhole start G
-gives name bytes g how base ms limit mark start G h =
-    stored_got limit mark start (G.before ++ base) G.gaps G.begin G.last g name bytes how
-    (subst (IsMarkedRun limit mark start) (ap (λ l. l ++ base) G.moments
+gives name bytes g how base ms limit mark start G h = stored_got limit mark start (G.before ++ base) G.gaps
+    G.begin G.last g name bytes how (subst (IsMarkedRun limit mark start) (ap (λ l. l ++ base) G.moments
     ∙ ap (λ l. G.last ∷ l) (append_assoc G.gaps (G.begin ∷ G.before) base)) h) G.stored G.ends

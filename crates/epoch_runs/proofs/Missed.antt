@@ -61,11 +61,10 @@ fit_damaged = (omega arith, (_, ((λ x. refl, λ x. refl), refl), refl)) and ass
 
 fit_audited : AreFit 8 missing audited
 unfolding setup_in actions_of
-fit_audited = (omega arith and (refl, (refl, (refl, (sums, (sums, judged, refl), refl)))) and refl
-    and (refl, (refl, (sums, (sums, (sums, judged, refl), refl), refl)))
-    and (refl, (refl, same_first _ _ refl)) and (refl, (refl, sym (no_answer _ refl)))
-    and (refl, (refl, same_first _ _ refl)) and (refl, (refl, same_first _ _ refl)) and refl and tt)
-    and assumption few and (assumption) and fit_damaged
+fit_audited = (omega arith and (refl, (refl, (refl, (sums, (sums, judged, refl), refl)))) and refl and
+    (refl, (refl, (sums, (sums, (sums, judged, refl), refl), refl))) and (refl, (refl, same_first _ _ refl))
+    and (refl, (refl, sym (no_answer _ refl))) and (refl, (refl, same_first _ _ refl)) and
+    (refl, (refl, same_first _ _ refl)) and refl and tt) and assumption few and (assumption) and fit_damaged
 
 fit_opened : AreFit 8 missing opened
 unfolding setup_in actions_of

@@ -26,13 +26,12 @@ use Rattle.epoch_runs.specs.Swept.{altered, robbed}
 swept-apart : (start : State) (ms : List Moment) (n k : ℕ) (ps : List ℕ) (sweeps : List Sweep) →
     (xs : List Moment) × (sweep_run start ms n sweeps ≡ xs ++ ms) × NoneBegan k xs × DamagesOnly ps xs
 swept-apart start ms n k ps [] = ([], refl, tt, tt)
-swept-apart start ms n k ps (sweep ∷ sweeps) =
-    (let P = swept-apart start ms n k ps sweeps in (
-      newest ∷ P.0,
-      ap (λ l. newest ∷ l) P.1,
-      (none sweep, P.2),
-      (tt, P.3),
-    ))
+swept-apart start ms n k ps (sweep ∷ sweeps) = (let P = swept-apart start ms n k ps sweeps in (
+  newest ∷ P.0,
+  ap (λ l. newest ∷ l) P.1,
+  (none sweep, P.2),
+  (tt, P.3),
+))
   where
     newest : Moment
     newest = moment (Step n) (swept_so sweep) (step-swept.swept (now start (sweep_run start ms n sweeps)) sweep)
@@ -46,8 +45,7 @@ swept-apart start ms n k ps (sweep ∷ sweeps) =
 
 -- one symbol of a block that provider 0 holds is altered
 abbrev alter : State → State
-alter w = called w 0 (record (w.providers 0)
-    { held = option_map (with_symbol 1 0 0 5) (w.providers 0).held })
+alter w = called w 0 (record (w.providers 0) { held = option_map (with_symbol 1 0 0 5) (w.providers 0).held })
 
 -- up to the begin of the scrub, with that begin, and with its first step
 abbrev pub older : List Moment

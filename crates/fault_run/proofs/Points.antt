@@ -201,12 +201,7 @@ faults = record {
     job = the_job (at 47 moments) 5;
     before = first_moments 47 moments;
     split = refl;
-    ends = record {
-      answer = Got byte;
-      event = refl;
-      outcome = refl;
-      runs = its-job (at 47 moments) 5 refl;
-    };
+    ends = record { answer = Got byte; event = refl; outcome = refl; runs = its-job (at 47 moments) 5 refl };
     none_continues = none_by_test (take 12 (first_moments 60 moments)) refl;
   };
   begun_anew = refl;

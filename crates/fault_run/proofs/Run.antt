@@ -26,11 +26,10 @@ cut_off = Turns 4 (Cut ∷ Goes 7 ∷ []) ∷ Begins (Begin (PutJob other []))
 
 -- refusals, a stop, reopenings, and a get
 abbrev opened_again : List Instruction
-opened_again = Turns 5 (Gives (Got byte) ∷ Works symbols ∷ Came (Some (block 3)) ∷ Came (Some (block 2))
-    ∷ Came (Some (block 1)) ∷ Came (Some (block 0)) ∷ []) ∷ Begins (Begin (GetJob name))
-    ∷ Comes (Begin (GetJob name)) (Refused refusal.Memory) same ∷ Reopens
-    ∷ Comes Reopen (Refused refusal.DiskFault) unread ∷ Stops []
-    ∷ Comes (Begin (GetJob name)) (Refused refusal.MustReopen) same ∷ cut_off
+opened_again = Turns 5 (Gives (Got byte) ∷ Works symbols ∷ Came (Some (block 3)) ∷ Came (Some (block 2)) ∷
+    Came (Some (block 1)) ∷ Came (Some (block 0)) ∷ []) ∷ Begins (Begin (GetJob name)) ∷ Comes
+    (Begin (GetJob name)) (Refused refusal.Memory) same ∷ Reopens ∷ Comes Reopen (Refused refusal.DiskFault)
+    unread ∷ Stops [] ∷ Comes (Begin (GetJob name)) (Refused refusal.MustReopen) same ∷ cut_off
 
 -- an audit, one of whose asks fails
 abbrev audited : List Instruction
@@ -47,9 +46,8 @@ instructions = Comes (Step 1) Closed same ∷ Comes Continue Continued continued
 -- all can be carried out
 fit_cut : AreFit 8 set_up cut_off
 unfolding setup_in actions_of
-fit_cut = assumption few and (assumption) and assumption few and (assumption)
-    and (omega arith, ((refl, (refl, (refl, loses_row))), assumption sizes)) and (assumption)
-    and assumption few
+fit_cut = assumption few and (assumption) and assumption few and (assumption) and
+    (omega arith, ((refl, (refl, (refl, loses_row))), assumption sizes)) and (assumption) and assumption few
 
 fit_again : AreFit 8 set_up opened_again
 unfolding setup_in actions_of
@@ -59,12 +57,11 @@ fit_again = assumption (few, sizes, byte_back, own_work) and (assumption) and (r
 
 fit_audited : AreFit 8 set_up audited
 unfolding setup_in actions_of
-fit_audited = (omega arith
-    and (refl, (refl, (refl, (sums, (sums, judged, refl), (sums, refl, refl))))) and refl
-    and (refl, (refl, (sums, (sums, (sums, judged, refl), (sums, refl, refl)), refl)))
-    and (refl, (refl, same_first _ _ refl)) and tt) and assumption few
-    and (omega arith and (refl, (refl, same_first _ _ refl)) and (refl, (refl, same_first _ _ refl)) and refl
-    and tt) and (assumption) and fit_again
+fit_audited = (omega arith and (refl, (refl, (refl, (sums, (sums, judged, refl), (sums, refl, refl))))) and
+    refl and (refl, (refl, (sums, (sums, (sums, judged, refl), (sums, refl, refl)), refl))) and
+    (refl, (refl, same_first _ _ refl)) and tt) and assumption few and
+    (omega arith and (refl, (refl, same_first _ _ refl)) and (refl, (refl, same_first _ _ refl)) and refl and
+    tt) and (assumption) and fit_again
 
 fit : AreFit 8 set_up instructions
 unfolding setup_in actions_of

@@ -36,8 +36,7 @@ padded-at bytes n i is below = go (nat_lt i n) refl
 -- the first 16 bytes, zeros in place of absent ones, make the same number as the bytes themselves
 pub padded-value : (xs bytes : List ℕ) (n : ℕ) → n ≡ min (length bytes) 16 → xs ≡ take n bytes →
     from_le_bytes w128 (xs ++ drop n (replicate 16 0)) ≡ from_le_bytes w128 bytes
-padded-value xs bytes n is e =
-    ap (λ (l : List ℕ). from_le_bytes w128 (l ++ drop n (replicate 16 0))) e
+padded-value xs bytes n is e = ap (λ (l : List ℕ). from_le_bytes w128 (l ++ drop n (replicate 16 0))) e
     ∙ from_le_bytes-same (take n bytes ++ drop n (replicate 16 0)) bytes
     (λ i below. padded-at bytes n i is below)
 
@@ -46,7 +45,6 @@ pub rest-value : (bytes : List ℕ) (from number start : ℕ) → from ≡ numbe
     start ≡ min (16 * from) (length bytes) →
     from_le_bytes w128 (take (length bytes - start) (drop start bytes))
     ≡ from_le_bytes w128 (drop (16 * number) bytes)
-rest-value bytes from number start e is =
-    ap (λ (l : List ℕ). from_le_bytes w128 l)
+rest-value bytes from number start e is = ap (λ (l : List ℕ). from_le_bytes w128 l)
     (take_all (length bytes - start) (drop start bytes) (omega (arith, length-drop start bytes))
     ∙ ap (λ (n : ℕ). drop n bytes) is ∙ drop_min (16 * from) bytes ∙ ap (λ (n : ℕ). drop (16 * n) bytes) e)

@@ -11,9 +11,8 @@ use borrow.Rule.Slice.PartMut.{put_mid}
 
 -- the bytes of one symbol more are written
 pub written_more : (block out piece : List ℕ) (k n symbol : ℕ) → k < length block →
-    symbol ≡ get_or block k symbol → length out ≡ 16 * length block →
-    length piece ≡ 16 → piece ≡ to_le_bytes w128 symbol →
-    take (16 * k) out ≡ bytes_of_symbols (take k block) →
+    symbol ≡ get_or block k symbol → length out ≡ 16 * length block → length piece ≡ 16 →
+    piece ≡ to_le_bytes w128 symbol → take (16 * k) out ≡ bytes_of_symbols (take k block) →
     take (16 * (k + 1)) (put_mid (16 * k) n out piece) ≡ bytes_of_symbols (take (k + 1) block)
 written_more block out piece k n symbol below is long wide e before =
     take-put_mid (16 * k) n out piece (16 * (k + 1)) (omega arith) (omega arith)
@@ -27,8 +26,7 @@ pub read_more : (bytes out : List ℕ) (k n symbol : ℕ) → k < length out →
     to_le_bytes w128 symbol ≡ take n (drop (16 * k) bytes) →
     bytes_of_symbols (take k out) ≡ take (16 * k) bytes →
     bytes_of_symbols (take (k + 1) (set out k symbol)) ≡ take (16 * (k + 1)) bytes
-read_more bytes out k n symbol below wide e before =
-    ap bytes_of_symbols (take_more_set out k symbol below)
+read_more bytes out k n symbol below wide e before = ap bytes_of_symbols (take_more_set out k symbol below)
     ∙ bytes_of_symbols-push (take k out) symbol
     ∙ ap (λ (l : List ℕ). l ++ to_le_bytes w128 symbol) before
     ∙ ap (λ (l : List ℕ). take (16 * k) bytes ++ l) (e ∙ ap (λ (m : ℕ). take m (drop (16 * k) bytes)) wide)

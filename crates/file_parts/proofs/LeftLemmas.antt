@@ -28,11 +28,9 @@ had_more left rest room bytes n same given full long is =
     )
 
 -- known bytes that are left are those looked for exactly where they were given, and no more
-pub is_what_is_left : (a b : Option (List ℕ)) (room bytes : List ℕ) (n : ℕ) (same : Bool) →
-    n ≤ length room → length room ≡ length bytes + 1 →
-    Consumes a b (take n room) → (n < length room → IsAtEnd b) →
-    (IsTrue same ↔ take n room ≡ bytes) →
-    IfSome a (λ left. IsTrue same ↔ left ≡ bytes)
+pub is_what_is_left : (a b : Option (List ℕ)) (room bytes : List ℕ) (n : ℕ) (same : Bool) → n ≤ length room →
+    length room ≡ length bytes + 1 → Consumes a b (take n room) → (n < length room → IsAtEnd b) →
+    (IsTrue same ↔ take n room ≡ bytes) → IfSome a (λ left. IsTrue same ↔ left ≡ bytes)
 is_what_is_left None b room bytes n same fits long given ended is = _
 is_what_is_left (Some left) None room bytes n same fits long given ended is = elim given [ ]
 is_what_is_left (Some left) (Some rest) room bytes n same fits long given ended is = go (eq-or-lt_of_le fits)

@@ -36,8 +36,7 @@ are-accepted stored.SixLetters = (refl, (refl, (refl, tt)))
 
 has-room : (s : Stored) → end_in A (records_of s) ≤ largest_journal
 has-room stored.FourZeros = (let e : end_in A (records_of stored.FourZeros) ≡ 77 = refl in omega (arith, e))
-has-room stored.SixLetters =
-    (let e : end_in A (records_of stored.SixLetters) ≡ 77 = refl in omega (arith, e))
+has-room stored.SixLetters = (let e : end_in A (records_of stored.SixLetters) ≡ 77 = refl in omega (arith, e))
 
 are-bytes : (s : Stored) → AreBytes (stored_bytes s)
 are-bytes stored.FourZeros = refl
@@ -63,31 +62,28 @@ stands s image is = subst (λ l. StandsActive l A (records_of s)) (sym is)
 known : (s : Stored) (old : Seen) (cells : Cells) → old.disk ≡ Some cells →
     reads cells ≡ text (records_of s) → (setup_numbers s).n ≤ length old.providers →
     IsKnown old (records_of s)
-known s old cells is reads_are enough = known-good (setup_numbers s) old cells A (records_of s) is
-    (record {
-      some = λ e. cc;
-      accepted = are-accepted s;
-      room = has-room s;
-      setup = refl;
-      stands = stands s (reads cells) reads_are;
-    }) enough
+known s old cells is reads_are enough = known-good (setup_numbers s) old cells A (records_of s) is (record {
+  some = λ e. cc;
+  accepted = are-accepted s;
+  room = has-room s;
+  setup = refl;
+  stands = stands s (reads cells) reads_are;
+}) enough
 
 -- ---- the forgery
 
 -- what is known of every get that ended well, of a store that is known
 abbrev pub WritesOrForged : Type 0
 WritesOrForged = (name bytes : List ℕ) (records : List Record) (file : File) (old new : Seen) (end : Ending) →
-    Answers (GetOf name) old new end →
-    IsKnown old records → file_of records name ≡ Some file → AreBytes bytes → length bytes ≡ file.size →
-    end.status ≡ 0 →
-    (new.sink ≡ told_then old.sink bytes) ⊎ HoldsForgery (object_in_effect records file) bytes 1 end.heard
+    Answers (GetOf name) old new end → IsKnown old records → file_of records name ≡ Some file →
+    AreBytes bytes → length bytes ≡ file.size → end.status ≡ 0 → (new.sink ≡ told_then old.sink bytes) ⊎
+    HoldsForgery (object_in_effect records file) bytes 1 end.heard
 
 -- a get of one of the stores that ends well with other bytes has heard a forgery
 pub other-forged : (s : Stored) (old new : Seen) (end : Ending) (cells : Cells) (written : List ℕ) →
-    WritesOrForged → Answers (GetOf name_of_file) old new end →
-    old.disk ≡ Some cells → reads cells ≡ text (records_of s) → (setup_numbers s).n ≤ length old.providers →
-    old.sink ≡ Some [] → new.sink ≡ Some written →
-    end.status ≡ 0 → written ≢ stored_bytes s →
+    WritesOrForged → Answers (GetOf name_of_file) old new end → old.disk ≡ Some cells →
+    reads cells ≡ text (records_of s) → (setup_numbers s).n ≤ length old.providers → old.sink ≡ Some [] →
+    new.sink ≡ Some written → end.status ≡ 0 → written ≢ stored_bytes s →
     HoldsForgery (object_of (setup_numbers s) 1) (stored_bytes s) 1 end.heard
 unfolding the-file
 other-forged s old new end cells written law answers is reads_are enough empty wrote ended other =

@@ -155,9 +155,8 @@ module _ {v : Vault} {told holds : Option Cells} {g next : ℕ} (s : IsStarted v
     -- with enough providers, the vault that was opened stands for an open state over them
     pub stands-open : provider_count v ≤ length ps → Stands v (devices holds g ps)
         (opened start s.records s.records s.area (provider_or_empty ps) (length ps) g)
-    stands-open enough =
-        stands-opened start s.records s.records s.area sound (same-left start) s.is_read.some v holds g next
-        refl s.stands (provider_or_empty ps) ps (record { count = refl; each = each-at ps })
+    stands-open enough = stands-opened start s.records s.records s.area sound (same-left start) s.is_read.some
+        v holds g next refl s.stands (provider_or_empty ps) ps (record { count = refl; each = each-at ps })
         (let e = uses-as in omega (arith, enough, e))
 
     -- there is a state that was just opened over them
@@ -200,8 +199,7 @@ module _ {v : Vault} {told holds : Option Cells} {g next : ℕ} (s : IsStarted v
       few-anew : length ps < provider_count v →
           IsMadeAnew moment next Reopen (events.Refused refusal.TooFewProviders) (without_vault next)
           (devices old f ps) (devices holds g ps)
-      few-anew few =
-          closed-anew moment next f g ps old holds old_is holds_is never s.area s.records rest
+      few-anew few = closed-anew moment next f g ps old holds old_is holds_is never s.area s.records rest
           refusal.TooFewProviders (
             start,
             same-rereads-over s.area s.records next f ps,
@@ -236,9 +234,8 @@ module _ (c left : Client) (left_is : left ≡ without_vault (client_next_job c)
   -- a client that holds no vault stands, with its devices, for some closed state
   pub left-standing : (old new : Option Cells) (g : ℕ) (ps : List Provider) → is_some old ≡ false →
       Goes IsResynced old new → IsStanding left (devices new g ps)
-  left-standing old new g ps none goes =
-      rw left_is (closed-standing (without_vault (client_next_job c)) g ps new refl
-      (untold-goes IsResynced old new none goes))
+  left-standing old new g ps none goes = rw left_is (closed-standing (without_vault (client_next_job c)) g ps
+      new refl (untold-goes IsResynced old new none goes))
 
   module _ {old new : Option Cells} {f g : ℕ} (ps : List Provider) (none : is_some old ≡ false) (moment : ℕ)
       {T : Type 0} where
@@ -266,10 +263,9 @@ module _ (c left : Client) (left_is : left ≡ without_vault (client_next_job c)
       pub enough-are : provider_count v ≤ length ps → (streamless : IsStreamless v) →
           IsMadeAnew moment (client_next_job c) Reopen events.Opened (with_vault v streamless left.next_job)
           (devices old f ps) (devices new g ps)
-      enough-are enough streamless =
-          rw left_is (opened-anew (rw left_is at s) f ps moment old (is_some-none old none)
-          (untold-goes IsResynced old new none start.disk.resynced) start.disk.called.cause.never_falls enough
-          streamless)
+      enough-are enough streamless = rw left_is (opened-anew (rw left_is at s) f ps moment old
+          (is_some-none old none) (untold-goes IsResynced old new none start.disk.resynced)
+          start.disk.called.cause.never_falls enough streamless)
 
   -- a vault over enough providers stands for each state just opened over what was read, and there is one
   pub opens-over : {old new : Option Cells} {g : ℕ} {v : Vault} (handed : ℕ)

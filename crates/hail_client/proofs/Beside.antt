@@ -174,16 +174,14 @@ pub begun-works : {T : Type 0} (v next : Vault) (o : Option Alone) (result : Res
     (is_some (held_by v) ≡ true → result ≡ Err fault.Busy) → OnErr result (IsUnchanged v next) →
     client.IsAloneAtWork (Some v) o → client.IsAloneAtWork (Some next) o
 begun-works v next None result busy unchanged at = tt
-begun-works {T} v next (Some x) result busy unchanged at =
-    same-beside-alone v next x
+begun-works {T} v next (Some x) result busy unchanged at = same-beside-alone v next x
     (subst (λ (r : Result T BeginFault). OnErr r (IsUnchanged v next)) (busy (held-at v x at)) unchanged) at
 
 -- the same of a client whose vault this is
 pub begun-at : {T : Type 0} (v next : Vault) (o : Option Vault) (s : Option Alone) (result : Result T BeginFault) →
     o ≡ Some v → (is_some (held_by v) ≡ true → result ≡ Err fault.Busy) → OnErr result (IsUnchanged v next) →
     ∥ client.IsAloneAtWork o s ∥₁ → ∥ client.IsAloneAtWork (Some next) s ∥₁
-begun-at v next o s result is busy unchanged at =
-    ∥∥₁_map at (λ x. begun-works v next s result busy unchanged
+begun-at v next o s result is busy unchanged at = ∥∥₁_map at (λ x. begun-works v next s result busy unchanged
     (subst (λ (p : Option Vault). client.IsAloneAtWork p s) is x))
 
 -- no stream of a client is open, as before
@@ -195,8 +193,7 @@ streamless-on v next o is keeps none =
 -- so no job of it waits for a stripe
 pub none-wait : (v : Vault) (o : Option Vault) (job : ℕ) → o ≡ Some v → (IsStreamless v → wants_of v job ≡ None) →
     ∥ IfSome o IsStreamless ∥₁ → wants_of v job ≡ None
-none-wait v o job is waits none =
-    is_some-none (wants_of v job)
+none-wait v o job is waits none = is_some-none (wants_of v job)
     (∥∥₁_elim (streamless-on v v o is (λ x. x) none) (Bool-set _ _) (λ x. ap is_some (waits x)))
 
 -- a client with a vault open and nothing alone is at work
@@ -206,9 +203,8 @@ free-works v o none = subst (λ (s : Option Alone). ∥ client.IsAloneAtWork (So
 -- what a client has alone runs beside its vault
 pub beside-at : (o : Option Vault) (s : Option Alone) (v : Vault) (x : Alone) → o ≡ Some v → s ≡ Some x →
     ∥ client.IsAloneAtWork o s ∥₁ → ∥ client.IsBeside v x ∥₁
-beside-at o s v x is some at =
-    ∥∥₁_map at (λ y. subst (λ (q : Option Alone). client.IsAloneAtWork (Some v) q) some
-    (subst (λ (p : Option Vault). client.IsAloneAtWork p s) is y))
+beside-at o s v x is some at = ∥∥₁_map at (λ y. subst (λ (q : Option Alone). client.IsAloneAtWork (Some v) q)
+    some (subst (λ (p : Option Vault). client.IsAloneAtWork p s) is y))
 
 -- ---- what is taken out of a client
 

@@ -64,8 +64,7 @@ one-held name file is = elim (cases_Bool (is_same_name (codes "notes.txt") name)
       let f : record { name = name; id = 1; size = 100; profile = 1 } ≡ file =
       (let z : ◌≡◌ {A = File} (record { name = name; id = 1; size = 100; profile = 1 }) file = cc in z) in
       (refl, ap (λ (z : File). z.size) f))
-  | inr n ↦ absurd (let e : None ≡ Some file = sym
-      (cond_false (is_same_name (codes "notes.txt") name)
+  | inr n ↦ absurd (let e : None ≡ Some file = sym (cond_false (is_same_name (codes "notes.txt") name)
       (Some (record { name = name; id = 1; size = 100; profile = 1 })) None n) ∙ is in cc)
 ]
 
@@ -158,11 +157,9 @@ pub scrubbing-stands : (c : Client) (v : Vault) → c.vault ≡ Some v →
     c.alone ≡ Some (alone.Scrub (record { number = 1; scrub = stored_scrub })) →
     StandsBeside v stored_devices (record stored_open { next_job = 2 }) 1 →
     ClientStands c stored_devices scrubbed_state
-scrubbing-stands c v is some S =
-    stands-of c (Some v) (Some (alone.Scrub (record { number = 1; scrub = stored_scrub }))) c.next_job is some
-    refl stored_devices
-    scrubbed_state
-    (record {
+scrubbing-stands c v is some S = stands-of c (Some v)
+    (Some (alone.Scrub (record { number = 1; scrub = stored_scrub }))) c.next_job is some refl stored_devices
+    scrubbed_state (record {
       scrub = new_scrub stored_open 0;
       number_is = refl;
       beside = S;
@@ -217,9 +214,8 @@ pub packing-stands : (c : Client) (v : Vault) (job : PackJob) → c.vault ≡ So
     IsPackOf v job → WritesText B (packed raised_records) job.pack →
     StandsBeside v (devices None 0 raised_devices.providers) (record raised_open { next_job = 2 }) 1 →
     ClientStands c raised_devices packing_state
-packing-stands c v job is some number before moves is_of writes S =
-    stands-of c (Some v) (Some (alone.Pack job)) c.next_job is some refl raised_devices packing_state
-    (record {
+packing-stands c v job is some number before moves is_of writes S = stands-of c (Some v)
+    (Some (alone.Pack job)) c.next_job is some refl raised_devices packing_state (record {
       pack = new_pack raised_open;
       alone = refl;
       number_is = number;

@@ -34,8 +34,7 @@ left-image w name file image rs js area has (inr (inr x)) = absurd (false≢true
 
 image-has : (w : State) (name : List ℕ) (file : File) (image : List ℕ) → IsSound 8 w → IsKept w name file →
     Shows w image → ImageHasFile name file image
-image-has w name file image sound kept shows =
-    (let L = image-left w image shows in
+image-has w name file image sound kept shows = (let L = image-left w image shows in
     left-image w name file image L.records L.journal L.area
     (journal-has w name file L.records L.journal L.area sound kept L.left) L.shows)
 

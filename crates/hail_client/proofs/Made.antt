@@ -16,8 +16,7 @@ use Rattle.hail_client.proofs.Standing.{stands-of, parts-of, open-of}
 -- beside what runs alone no job begins
 busy-alone : (w : State) (a : states.Alone) (kind : Kind) (own : Option ℕ) → w.is_barred ≡ false →
     w.alone ≡ Some a → refusal_of_begin 8 w kind own ≡ Some refusal.Busy
-busy-alone w a kind own free alone =
-    cond_false w.is_barred _ _ free
+busy-alone w a kind own free alone = cond_false w.is_barred _ _ free
     ∙ cond_true (is_busy 8 (sight_of w) (aim_of kind)) _ _
     (ap (λ (x : Option states.Alone). (is_some x || list_any is_upgrade (aims_of w.jobs))
     || are_jobs_in_the_way 8 (aims_of w.jobs) (aim_of kind)) alone)
@@ -36,15 +35,13 @@ module _ (c new : Client) (v next : Vault) (result : Result ℕ BeginFault) (is 
       ((w : State) (d : Devices) (moment : ℕ) → Stands v d w → MakesBegin w moment kind own result next d) →
       (w : State) (d : Devices) (moment : ℕ) → StandsBy (Some v) o c.next_job d w →
       WasBegun w moment kind own d
-  begun-by None none kind own makes w d moment S =
-      (let M = makes w d moment S in
+  begun-by None none kind own makes w d moment S = (let M = makes w d moment S in
       record {
         state = M.state;
         begins = M.begins;
         stands = stands-of new (Some next) None c.next_job new_is (alone_is ∙ none) number_is d M.state M.stands;
       })
-  begun-by (Some x) some kind own makes w d moment S =
-      (let A = beside-of v x d w S in
+  begun-by (Some x) some kind own makes w d moment S = (let A = beside-of v x d w S in
       let held : is_some (held_by v) ≡ true = ap is_some A.held in
       let is_busy : result ≡ Err fault.Busy = busy held in
       record {
@@ -71,8 +68,7 @@ module _ (c new : Client) (v next : Vault) (result : Result ℕ BeginFault) (is 
       ((w : State) (d : Devices) (moment : ℕ) → Stands v d w → MakesBegin w moment kind None result next d) →
       (w : State) (d : Devices) (moment : ℕ) → ClientStands c d w →
       MakesEvent w moment (Begin kind) (client_begin_outcome (Some result)) new d
-  begin-of kind spelled makes w d moment S =
-      (let M = begun kind None makes w d moment S in
+  begin-of kind spelled makes w d moment S = (let M = begun kind None makes w d moment S in
       record { state = M.state; spelled = spelled; happens = M.begins; stands = M.stands })
 
   -- a begin of a put, of a file with a profile of its own where one is named
@@ -117,8 +113,7 @@ module _ (c new : Client) (v next : Vault) (number : ℕ) (turn : Turn) (old d :
 
 -- none does where no vault is open
 closed-by : (c : Client) (w : State) (d : Devices) → c.vault ≡ None → ClientStands c d w → w.is_open ≡ false
-closed-by c w d none S =
-    open-of c.vault c.alone c.next_job d w S ∙ ap (λ (o : Option Vault). is_some o) none
+closed-by c w d none S = open-of c.vault c.alone c.next_job d w S ∙ ap (λ (o : Option Vault). is_some o) none
 
 -- a begin of a put by a client with no vault changes nothing
 pub put-closed : (c new : Client) (own : Option ℕ) (name bytes : List ℕ) → c.vault ≡ None →

@@ -26,8 +26,7 @@ use Rattle.hail_client.proofs.Standing.{stands-of, parts-of}
 -- the moves of the one that runs alone
 pub its-pack : (o : Option Alone) (job : PackJob) (p : Pack) → o ≡ Some (alone.Pack job) → pack_alone o ≡ Some p →
     job.pack ≡ p
-its-pack o job p runs is =
-    ap (λ (x : Option Pack). unwrap_or x job.pack) (sym (ap pack_alone runs) ∙ is)
+its-pack o job p runs is = ap (λ (x : Option Pack). unwrap_or x job.pack) (sym (ap pack_alone runs) ∙ is)
 
 -- no items in a list of none
 none-of : {X : Type 0} (xs : List X) → length xs ≡ 0 → xs ≡ []
@@ -85,8 +84,7 @@ pack-refused c new v next why is new_is alone_is number packs busy unchanged w d
     by : (o : Option Alone) → StandsBy (Some v) o c.next_job d w →
         BeginsPack w (Refused (refusal_of why)) w × StandsBy (Some next) o c.next_job d w
     by None S = (let h = packs w d S in ((S.desk.core.is_open, refused-why w why h.0, refl), h.1))
-    by (Some x) S =
-        (let L = beside-of v x d w S in
+    by (Some x) S = (let L = beside-of v x d w S in
         let e : IsBusy (Err why) = busy (ap is_some L.held) in
         let same : why ≡ fault.Busy = cc in (
           (
@@ -139,8 +137,7 @@ calls-last (suc (suc (suc (suc moves)))) l e = omega (arith, l)
 module _ (c : Client) (v : Vault) (job : PackJob) (number : ℕ) (is : c.vault ≡ Some v)
     (some : c.alone ≡ Some (alone.Pack job)) (same : job.number ≡ number) where
   coming : client_coming c number ≡ pack_coming (moves_of job.pack)
-  coming =
-      (λ i. coming_by (is i) (some i) number)
+  coming = (λ i. coming_by (is i) (some i) number)
       ∙ cond_true (job.number == number) _ _ (eq-eqb job.number number same)
 
   -- it calls the disk as long as moves are left, and no provider

@@ -62,17 +62,15 @@ module _ (w : State) (rs js : List Record) (area : Area) (sound : IsSound 8 w) (
   module _ (v : Vault) (holds : Option Cells) (faults first : ℕ) (is_first : w.next_job ≡ first)
       (stands : (u : State) (ps : List Provider) → IsJustOpened u area js first faults ps →
       Stands v (devices holds faults ps) u) where
-    just : (u : State) (ps : List Provider) → IsAtRest u → u.is_open ≡ true → u.journal ≡ js →
-        u.area ≡ area → u.next_job ≡ first → u.disk_faults ≡ faults → AreHanded ps u →
-        Stands v (devices holds faults ps) u
-    just u ps rest opens journal here next faults_are handed =
-        stands u ps (record {
-          at_rest = record { rest = rest; opened = opens; next = next };
-          journal = journal;
-          area_is = here;
-          faults_are = faults_are;
-          handed = handed;
-        })
+    just : (u : State) (ps : List Provider) → IsAtRest u → u.is_open ≡ true → u.journal ≡ js → u.area ≡ area →
+        u.next_job ≡ first → u.disk_faults ≡ faults → AreHanded ps u → Stands v (devices holds faults ps) u
+    just u ps rest opens journal here next faults_are handed = stands u ps (record {
+      at_rest = record { rest = rest; opened = opens; next = next };
+      journal = journal;
+      area_is = here;
+      faults_are = faults_are;
+      handed = handed;
+    })
 
     -- a vault opened over such a journal stands for the machine's state once it is open
     pub stands-opened : (providers : ℕ → Provider) (ps : List Provider) →
@@ -80,15 +78,13 @@ module _ (w : State) (rs js : List Record) (area : Area) (sound : IsSound 8 w) (
         (setup_in (left_with w rs js area)).n ≤ length ps →
         Stands v (devices holds faults ps) (opened w rs js area providers (length ps) faults)
     stands-opened providers ps handed enough =
-        just (opened w rs js area providers (length ps) faults) ps
-        (rests providers (length ps) faults enough) refl refl refl is_first refl
-        (record { count = refl; each = handed.each })
+        just (opened w rs js area providers (length ps) faults) ps (rests providers (length ps) faults enough)
+        refl refl refl is_first refl (record { count = refl; each = handed.each })
 
     -- the vault uses as many providers as the setup in effect says
     pub count-is : provider_count v ≡ (setup_in (left_with w rs js area)).n
     unfolding setup_in
-    count-is =
-        (let n : ℕ = (setup_in (left_with w rs js area)).n in
+    count-is = (let n : ℕ = (setup_in (left_with w rs js area)).n in
         let ps : List Provider = replicate n anyone in
         let e : length ps ≡ n = length-replicate n anyone in
         let enough : n ≤ length ps = omega (arith, e) in
@@ -135,8 +131,7 @@ module _ (w : State) (moment next : ℕ) (old : Cells) (f0 f1 : ℕ) (ps : List 
 
   refused-at : (new : Option Cells) (why : refusal.Refusal) (u : State) → Reopens w (events.Refused why) u →
       StandsForState new u → u.disk_faults ≡ f1 → u.handed ≡ w.handed →
-      ((j : ℕ) → u.providers j ≡ w.providers j) →
-      u.is_open ≡ false → u.next_job ≡ w.next_job →
+      ((j : ℕ) → u.providers j ≡ w.providers j) → u.is_open ≡ false → u.next_job ≡ w.next_job →
       MakesEvent w moment Reopen (events.Refused why) (without_vault next) (devices new f1 ps)
   refused-at new why u happens images faults handed providers closed same =
       record {
@@ -168,8 +163,7 @@ module _ (w : State) (moment next : ℕ) (old : Cells) (f0 f1 : ℕ) (ps : List 
 
   -- bytes that are no journal are not read
   not-bad : (at : ℕ) → IsStartFault (journal_read old) (start_fault.BadJournal at) → ⊥
-  not-bad at (long, bad) =
-      (let size = length-take largest_journal (reads old) in
+  not-bad at (long, bad) = (let size = length-take largest_journal (reads old) in
       let L = shown-long w (reads old) read (omega (arith, long, size)) in
       bad-none (journal_read old) at L.0 L.1 (read-accepted 8 w sound L.0 L.1 L.3)
       (active-take largest_journal (reads old) L.0 L.1 L.2 (read-fits 8 w sound L.0 L.1 L.3)) bad)
@@ -192,15 +186,13 @@ module _ (w : State) (moment next : ℕ) (old : Cells) (f0 f1 : ℕ) (ps : List 
   pub fault-event : {T : Type 0} {new : Option Cells} (why : StartFault) →
       StartsOver {T = T} (Some old) new f0 f1 (Err why) →
       MakesEvent w moment Reopen (events.Refused (start_refusal why)) (without_vault next) (devices new f1 ps)
-  fault-event {T} {new} start_fault.DiskFault start =
-      refused-at new refusal.DiskFault left
+  fault-event {T} {new} start_fault.DiskFault start = refused-at new refusal.DiskFault left
       (f1, le, subst (λ (k : ℕ). Rose k f1) (sym are.faults) (start.disk.called.cause.rose refl), refl)
       (resynced-images new start.disk.resynced) refl refl (λ j. refl) refl refl
   fault-event {T} {new} start_fault.Memory start =
-      refused-at new refusal.Memory left
-      (ap (λ n. record (given_up w) { disk_faults = n })
-      (start.disk.called.no_fault (λ e. cc) ∙ sym are.faults))
-      (resynced-images new start.disk.resynced) refl refl (λ j. refl) refl refl
+      refused-at new refusal.Memory left (ap (λ n. record (given_up w) { disk_faults = n })
+      (start.disk.called.no_fault (λ e. cc) ∙ sym are.faults)) (resynced-images new start.disk.resynced) refl
+      refl (λ j. refl) refl refl
   fault-event {T} {new} start_fault.NotSetUp start =
       (let none = none-read w (reads old) sound.journal read (free-read start.refused) in
       refused-at new refusal.NotSetUp (record bare { disk_faults = f1 })
@@ -229,8 +221,7 @@ module _ (w : State) (moment next : ℕ) (old : Cells) (f0 f1 : ℕ) (ps : List 
     pub few-event : length ps < provider_count v →
         MakesEvent w moment Reopen (events.Refused refusal.TooFewProviders) (without_vault next)
         (devices new f1 ps)
-    few-event few =
-        (let count = are.providers.count in
+    few-event few = (let count = are.providers.count in
         let fewer : w.handed < (setup_in here).n =
         (let e = uses-as in omega (arith, count, few, e)) in
         refused-at new refusal.TooFewProviders (record here { disk_faults = f1 }) (
@@ -247,8 +238,7 @@ module _ (w : State) (moment next : ℕ) (old : Cells) (f0 f1 : ℕ) (ps : List 
     -- a start with enough providers is a reopening that the machine makes
     pub opened-event : provider_count v ≤ length ps → (streamless : IsStreamless v) →
         MakesEvent w moment Reopen events.Opened (with_vault v streamless next) (devices new f1 ps)
-    opened-event enough streamless =
-        (let count = are.providers.count in
+    opened-event enough streamless = (let count = are.providers.count in
         let many : (setup_in here).n ≤ length ps = (let e = uses-as in omega (arith, enough, e)) in
         let many_handed : (setup_in here).n ≤ w.handed = omega (arith, many, count) in
         record {

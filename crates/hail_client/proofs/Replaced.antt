@@ -118,8 +118,7 @@ not-handed event w moment j IsThere change c holds faults ps spelled is beyond S
     record {
       state = w;
       spelled = spelled;
-      happens =
-          is NothingHeld w (subst (λ b. ReplacesIf b w j IsThere change NothingHeld w) (sym out) refl);
+      happens = is NothingHeld w (subst (λ b. ReplacesIf b w j IsThere change NothingHeld w) (sym out) refl);
       stands = S;
     }
 
@@ -145,9 +144,8 @@ handed event w moment j IsThere change c holds faults ps qs p q answer spelled i
     record {
       state = after w changed;
       spelled = spelled;
-      happens = is (replace_outcome answer) (after w changed)
-          (subst (λ b. ReplacesIf b w j IsThere change (replace_outcome answer)
-          (after w changed)) (sym inside)
+      happens = is (replace_outcome answer) (after w changed) (subst
+          (λ b. ReplacesIf b w j IsThere change (replace_outcome answer) (after w changed)) (sym inside)
           (by_answer answer (subst (λ (x : Provider). Replaces IsThere change answer x q) seen made)));
       stands = stands-after holds faults ps qs w changed c.vault c.alone c.next_job S after_is;
     }

@@ -68,8 +68,7 @@ module _ (start : State) (ms : List Moment) (job : ℕ) where
     -- with a step that does not go on, the job has run to its end, and what it heard is told
     pub at-end : (t : Option ClientTurn) → job_goes_on t ≡ false →
         MakesEvent here (length (way.steps ++ ms)) (Step job) (step_outcome t) next new →
-        IfSome t (λ turn. HeardIs turn (heard_by (job_of here.jobs job))) →
-        RunsJobOn start ms job t next new
+        IfSome t (λ turn. HeardIs turn (heard_by (job_of here.jobs job))) → RunsJobOn start ms job t next new
     at-end t over M heard = record {
       steps = way.steps;
       last = record { event = Step job; outcome = step_outcome t; state = M.state };

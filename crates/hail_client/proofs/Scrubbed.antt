@@ -122,9 +122,8 @@ module _ (v new : ScrubView) (ps qs : List Provider) (t : ScrubTurn)
 
     acts : (action : Action) (rest : List Action) → v.todo ≡ action ∷ rest → IsScrubAction action
     acts action rest todo =
-        (let h = steps-mine (is.scrub.number == is.scrub.number)
-        (eq-eqb is.scrub.number is.scrub.number refl) (scrub_outcome (setup_in lone).n t) made-alone.state
-        (made-alone.happens 8 0 refl refl) in
+        (let h = steps-mine (is.scrub.number == is.scrub.number) (eq-eqb is.scrub.number is.scrub.number refl)
+        (scrub_outcome (setup_in lone).n t) made-alone.state (made-alone.happens 8 0 refl refl) in
         acts-as-scrub lone made-alone.state is.scrub action rest (scrub_outcome (setup_in lone).n t)
         (subst (λ (l : List Action). StepsScrub lone is.scrub l (scrub_outcome (setup_in lone).n t)
         made-alone.state) (is.is.todo_is ∙ todo) h))
@@ -148,8 +147,7 @@ pub next-at : (v : Vault) (job : ScrubJob) (new : ScrubView) (ps qs : List Provi
     ∥ IsBesideVault v job ∥₁ → IsNext job.scrub
 next-at v job new ps qs t makes at = next-by job.scrub job.scrub.todo refl
     (λ action rest todo. ∥∥₁_elim at (scrub-action-prop action)
-    (λ B. acts job.scrub new ps qs t makes B.scrub action rest todo))
-    (∥∥₁_elim at le_prop (λ B. B.going))
+    (λ B. acts job.scrub new ps qs t makes B.scrub action rest todo)) (∥∥₁_elim at le_prop (λ B. B.going))
 
 -- it has a step left
 pub going-at : (v : Vault) (job : ScrubJob) → ∥ IsBesideVault v job ∥₁ → 0 < scrub_left job.scrub
@@ -165,8 +163,7 @@ there-at o v job n is enough at =
 pub scrub-on : (v new : ScrubView) (ps qs : List Provider)
     (makes : (w : State) (m : Scrub) → ScrubStands v ps w m → MakesScrubStep w m turn.More new qs) →
     IsScrub v → IsScrub new
-scrub-on v new ps qs makes is =
-    (let made = made-alone v new ps qs turn.More makes is in
+scrub-on v new ps qs makes is = (let made = made-alone v new ps qs turn.More makes is in
     record { state = made.state; scrub = made.left.next; is = made.left.stands.scrub })
 
 -- and runs beside the vault still
@@ -191,8 +188,7 @@ vault-coming c v number is none = λ i. coming_by (is i) (none i) number
 module _ (c : Client) (v : Vault) (job : ScrubJob) (number : ℕ) (is : c.vault ≡ Some v)
     (some : c.alone ≡ Some (alone.Scrub job)) (same : job.number ≡ number) (next : IsNext job.scrub) where
   coming : client_coming c number ≡ scrub_coming (next_to_do job.scrub)
-  coming =
-      (λ i. coming_by (is i) (some i) number)
+  coming = (λ i. coming_by (is i) (some i) number)
       ∙ cond_true (job.number == number) _ _ (eq-eqb job.number number same)
 
   -- it calls no disk, and of the providers only the one that its next action names
@@ -294,8 +290,7 @@ module _ (c : Client) (v : Vault) (job : ScrubJob) (is : c.vault ≡ Some v) (so
     steps-scrub : (w : State) (moment : ℕ) → ClientStands c (devices holds faults ps) w →
         ClientMakesStep w moment number (Some (client_turn.Scrub n t)) next (devices holds faults ps)
         (devices holds faults qs)
-    steps-scrub w moment C =
-        (let S = held-by w C in
+    steps-scrub w moment C = (let S = held-by w C in
         let made = makes w S.scrub S.stands in
         let count : n ≡ (setup_in w).n = n_is ∙ count-is v job holds faults ps qs w S new t made in
         record {
@@ -334,8 +329,7 @@ module _ (c : Client) (v : Vault) (job : ScrubJob) (is : c.vault ≡ Some v) (so
       (w : State) (moment : ℕ) → ClientStands c (devices holds faults ps) w →
       ClientMakesStep w moment number (Some (client_turn.Scrub n (turn.Done a))) next
       (devices holds faults ps) (devices holds faults qs)
-  ends next left qs number n fits same n_is new a vault alone_is frees makes =
-      steps-scrub next qs (turn.Done a) number n fits same n_is new makes
-      (λ w S made. stands-of next (Some left) None next.next_job vault alone_is refl (devices holds faults qs)
-      made.state
+  ends next left qs number n fits same n_is new a vault alone_is frees makes = steps-scrub next qs
+      (turn.Done a) number n fits same n_is new makes (λ w S made. stands-of next (Some left) None
+      next.next_job vault alone_is refl (devices holds faults qs) made.state
       (freed v left job holds faults ps qs w S new a (λ u k h. frees u (devices holds faults qs) k h) made))

@@ -19,8 +19,7 @@ IsBusy result = result ≡ Err fault.Busy
 -- beside what runs alone nothing else begins to
 pub alone-busy : (w : State) (a : states.Alone) → w.is_barred ≡ false → w.alone ≡ Some a →
     (more : List Cause) → alone_refusal w more ≡ Some refusal.Busy
-alone-busy w a free alone_is more =
-    cond_false w.is_barred _ _ free
+alone-busy w a free alone_is more = cond_false w.is_barred _ _ free
     ∙ cond_true (nat_lt 0 (length w.jobs) || is_some w.alone) _ _
     (ap (λ (x : Option states.Alone). nat_lt 0 (length w.jobs) || is_some x) alone_is ∙ or-true (nat_lt 0 (length w.jobs)))
 
@@ -41,8 +40,7 @@ module _ (c new : Client) (d : Devices) (w : State) (moment : ℕ) where
   scrub-closed S none = record {
     state = w;
     spelled = tt;
-    happens =
-        (open-of c.vault c.alone c.next_job d w S ∙ ap (λ (o : Option Vault). is_some o) none, refl);
+    happens = (open-of c.vault c.alone c.next_job d w S ∙ ap (λ (o : Option Vault). is_some o) none, refl);
     stands = S;
   }
 
@@ -55,10 +53,8 @@ module _ (v next : Vault) (w : State) (d : Devices) (moment : ℕ) (why : BeginF
   -- what a hold that was refused comes to
   refused-by : (o : Option Alone) (number : ℕ) → StandsBy (Some v) o number d w →
       BeginsScrub moment w (Refused (refusal_of why)) w × StandsBy (Some next) o number d w
-  refused-by None number S =
-      (let h = holds S in ((S.desk.core.is_open, inl h.0, refl), h.1))
-  refused-by (Some x) number S =
-      (let A = beside-of v x d w S in
+  refused-by None number S = (let h = holds S in ((S.desk.core.is_open, inl h.0, refl), h.1))
+  refused-by (Some x) number S = (let A = beside-of v x d w S in
       let e : IsBusy (Err why) = busy (ap is_some A.held) in
       let same : why ≡ fault.Busy = cc in (
         (
@@ -88,11 +84,9 @@ scrub-refused c new v next why is new_is alone_is number holds busy unchanged w 
     })
 
 -- a vault that was held just now was not held before
-was-free : (o : Option ℕ) (number : ℕ) →
-    (is_some o ≡ true → IsBusy (Ok number)) → o ≡ None
+was-free : (o : Option ℕ) (number : ℕ) → (is_some o ≡ true → IsBusy (Ok number)) → o ≡ None
 was-free None number busy = refl
-was-free (Some k) number busy =
-    absurd (let e : IsBusy (Ok number) = busy refl in cc)
+was-free (Some k) number busy = absurd (let e : IsBusy (Ok number) = busy refl in cc)
 
 module _ (v next : Vault) (number : ℕ) (scrub : ScrubView)
     (begun : (w : State) (d : Devices) (moment : ℕ) → Stands v d w
@@ -104,8 +98,7 @@ module _ (v next : Vault) (number : ℕ) (scrub : ScrubView)
 
   begun-by : (o : Option Alone) (k : ℕ) (w : State) (d : Devices) (moment : ℕ) → StandsBy (Some v) o k d w →
       Happens 8 moment w BeginScrub (Begun number) (held w moment) × StandsHeld next job d (held w moment)
-  begun-by None k w d moment S =
-      (let h = holds w d S in
+  begun-by None k w d moment S = (let h = holds w d S in
       let fine = hold_begins w moment 8 S.desk.core.is_open h.0 in (
         (S.desk.core.is_open, h.0, h.1, refl),
         record {
@@ -138,8 +131,7 @@ module _ (v next : Vault) (number : ℕ) (scrub : ScrubView)
   -- and the scrub runs beside the vault
   pub scrub-works : held_by next ≡ Some number → 0 < scrub_left scrub → scrub.providers ≤ provider_count v →
       ∥ IsAloneAtWork (Some next) (Some (alone.Scrub job)) ∥₁
-  scrub-works held_is going fits =
-      by_work ∥∥₁_prop v.desk (λ w faults ps desk.
+  scrub-works held_is going fits = by_work ∥∥₁_prop v.desk (λ w faults ps desk.
       let d = devices None faults ps in
       let S : Stands v d w = record { free = was-free v.held number busy; desk = desk } in
       let h = holds w d S in

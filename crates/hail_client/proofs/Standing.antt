@@ -8,16 +8,14 @@ use Rattle.hail_client.specs.declared.alone.Alone.TheVariants as alone
 -- a client whose parts are these
 pub stands-of : (c : Client) (o : Option Vault) (s : Option Alone) (next : ℕ) → c.vault ≡ o → c.alone ≡ s →
     c.next_job ≡ next → (d : Devices) (w : State) → StandsBy o s next d w → ClientStands c d w
-stands-of c o s next vault scrub number d w S =
-    subst (λ (x : Option Vault). StandsBy x c.alone c.next_job d w) (sym vault)
-    (subst (λ (x : Option Alone). StandsBy o x c.next_job d w) (sym scrub)
+stands-of c o s next vault scrub number d w S = subst (λ (x : Option Vault). StandsBy x c.alone c.next_job d
+    w) (sym vault) (subst (λ (x : Option Alone). StandsBy o x c.next_job d w) (sym scrub)
     (subst (λ (n : ℕ). StandsBy o s n d w) (sym number) S))
 
 -- and what it says of its parts
 pub parts-of : (c : Client) (o : Option Vault) (s : Option Alone) → c.vault ≡ o → c.alone ≡ s →
     (d : Devices) (w : State) → ClientStands c d w → StandsBy o s c.next_job d w
-parts-of c o s vault scrub d w S =
-    subst (λ (x : Option Vault). StandsBy x s c.next_job d w) vault
+parts-of c o s vault scrub d w S = subst (λ (x : Option Vault). StandsBy x s c.next_job d w) vault
     (subst (λ (x : Option Alone). StandsBy c.vault x c.next_job d w) scrub S)
 
 -- devices are those of a state, whether or not something runs alone in it
@@ -62,9 +60,8 @@ open-of None s next d w S = S.closed
 
 listed : (v : Vault) (d : Devices) (w u : State) → u.records ≡ w.records → u.is_open ≡ w.is_open →
     DeskStands v.desk d u → Lists w w.is_open (Listed (table_of v).files) w
-listed v d w u records opened S =
-    subst (λ b. Lists w b (Listed (table_of v).files) w) (sym S.core.is_open ∙ opened)
-    ((table-like v.desk.core u S.core).files ∙ ap files_of records, refl)
+listed v d w u records opened S = subst (λ b. Lists w b (Listed (table_of v).files) w)
+    (sym S.core.is_open ∙ opened) ((table-like v.desk.core u S.core).files ∙ ap files_of records, refl)
 
 -- the files that a client lists are those in effect
 pub lists-of : (o : Option Vault) (s : Option Alone) (next : ℕ) (d : Devices) (w : State) →
@@ -76,8 +73,7 @@ lists-of (Some v) (Some (alone.Pack job)) next d w S =
 lists-of None s next d w S = subst (λ b. Lists w b Closed w) (sym S.closed) refl
 
 enough-by : (v : Vault) (d : Devices) (w : State) → DeskStands v.desk d w → provider_count v ≤ length d.providers
-enough-by v d w S =
-    (let a = S.core.sound.handed S.core.is_open in
+enough-by v d w S = (let a = S.core.sound.handed S.core.is_open in
     let b = S.devices.providers.count in
     let c = ap (λ (z : Setup). z.n) S.setup in
     omega (arith, a, b, c))

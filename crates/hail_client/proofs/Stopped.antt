@@ -55,8 +55,7 @@ stops w moment picks c next old new f g ps spelled next_is goes same S =
       happens = left-rereads w k.records k.journal k.area k.left;
       stands = subst (λ (x : Client). ClientStands x (devices new g ps) after) (sym next_is)
           (closed-stands w k.records k.journal k.area new g (client_next_job c) ps sound k.left
-          (next-of c.vault c.alone c.next_job (devices old f ps) w S) (are.faults ∙ sym same)
-          (record {
+          (next-of c.vault c.alone c.next_job (devices old f ps) w S) (are.faults ∙ sym same) (record {
             images = k.stands;
             faults = are.faults ∙ sym same;
             providers = record { count = are.providers.count; each = are.providers.each };

@@ -42,11 +42,9 @@ and_of_elements zero false true true = refl
 and_of_elements zero false true false = refl
 and_of_elements zero false false true = refl
 and_of_elements zero false false false = refl
-and_of_elements (suc k) x y m =
-    and_by_halves (width k) (number k x.0) (number k x.1) (number k y.0) (number k y.1) (number k m.0)
-    (number k m.1)
-    (number-lt k x.1) (number-lt k y.1) (number-lt k m.1) (and_of_elements k x.0 y.0 m.0)
-    (and_of_elements k x.1 y.1 m.1)
+and_of_elements (suc k) x y m = and_by_halves (width k) (number k x.0) (number k x.1) (number k y.0)
+    (number k y.1) (number k m.0) (number k m.1) (number-lt k x.1) (number-lt k y.1) (number-lt k m.1)
+    (and_of_elements k x.0 y.0 m.0) (and_of_elements k x.1 y.1 m.1)
 
 -- the same of numbers
 and_of_sum : (k a b m : ℕ) → a < 2 ^ width k → b < 2 ^ width k → m < 2 ^ width k →
@@ -54,10 +52,8 @@ and_of_sum : (k a b m : ℕ) → a < 2 ^ width k → b < 2 ^ width k → m < 2 ^
 and_of_sum k a b m ha hb hm =
     by_element k (λ a. bit_and (bit_xor a b) m ≡ bit_xor (bit_and a m) (bit_and b m))
     (λ x. by_element k (λ b. bit_and (bit_xor (number k x) b) m ≡ bit_xor (bit_and (number k x) m)
-    (bit_and b m))
-    (λ y. by_element k (λ m. bit_and (bit_xor (number k x) (number k y)) m ≡ bit_xor (bit_and
-    (number k x) m) (bit_and (number k y) m))
-    (λ z. and_of_elements k x y z) m hm) b hb) a ha
+    (bit_and b m)) (λ y. by_element k (λ m. bit_and (bit_xor (number k x) (number k y)) m ≡ bit_xor
+    (bit_and (number k x) m) (bit_and (number k y) m)) (λ z. and_of_elements k x y z) m hm) b hb) a ha
 
 -- the level of a number that has 2 ^ n lanes, each of level k + 1
 abbrev pub above : ℕ → ℕ → ℕ
@@ -144,16 +140,14 @@ module _ (k n : ℕ) (all : bit_xor (lower k n * 2 ^ width k) (lower k n) ≡ 2 
 
   -- the upper halves, where they stand
   upper_of : (a : ℕ) → bit_and a (lower k n * f) ≡ low_of (a / f) * f
-  upper_of a =
-      ap₂ bit_and (sym (shr_split a (width k))) (sym (add-zero (lower k n * f))) ∙
+  upper_of a = ap₂ bit_and (sym (shr_split a (width k))) (sym (add-zero (lower k n * f))) ∙
       and_block (width k) (a / f) (lower k n) (a % f) 0 (mod_below a f (pow_pos (width k))) (pow_pos
       (width k)) ∙
       ap (λ x. low_of (a / f) * f + x) (and_zero (a % f)) ∙ add-zero (low_of (a / f) * f)
 
   -- a number is the sum of both
   both_halves : (a : ℕ) → a < 2 ^ width (above k n) → bit_xor (low_of (a / f) * f) (low_of a) ≡ a
-  both_halves a ha =
-      ap₂ bit_xor (sym (upper_of a) ∙ and_comm a (lower k n * f)) (and_comm a (lower k n)) ∙
+  both_halves a ha = ap₂ bit_xor (sym (upper_of a) ∙ and_comm a (lower k n * f)) (and_comm a (lower k n)) ∙
       sym (and_of_sum (above k n) (lower k n * f) (lower k n) a room (lower-lt k n) ha) ∙
       ap (λ x. bit_and x a) all ∙ and_comm (2 ^ width (above k n) - 1) a ∙
       and_mask a (width (above k n)) ∙ mod-eq_of_lt ha
@@ -220,10 +214,9 @@ times_halves k a c h =
     (v 0 ⊡ v 3)) refl
 
 -- the same where the factor is multiplied with F first
-pub times_halves_first : (k a shifted c high low : ℕ) → c < 2 ^ width (suc k) → shifted ≡
-    nim_mul a (2 ^ width k) →
-    high ≡ nim_mul shifted (c / 2 ^ width k) → low ≡ nim_mul a (c % 2 ^ width k) → bit_xor high low ≡
-    nim_mul a c
+pub times_halves_first : (k a shifted c high low : ℕ) → c < 2 ^ width (suc k) →
+    shifted ≡ nim_mul a (2 ^ width k) → high ≡ nim_mul shifted (c / 2 ^ width k) →
+    low ≡ nim_mul a (c % 2 ^ width k) → bit_xor high low ≡ nim_mul a c
 unfolding nim_add
 times_halves_first k a shifted c high low h moved is_high is_low =
     let f = 2 ^ width k in
@@ -236,8 +229,7 @@ times_halves_first k a shifted c high low h moved is_high is_low =
 pub sum_by_halves : (k a b c d high low shifted : ℕ) → b < 2 ^ width (suc k) → d < 2 ^ width (suc k) →
     high ≡ nim_add (nim_mul a (b / 2 ^ width k)) (nim_mul c (d / 2 ^ width k)) →
     low ≡ nim_add (nim_mul a (b % 2 ^ width k)) (nim_mul c (d % 2 ^ width k)) →
-    shifted ≡ nim_mul high (2 ^ width k) →
-    bit_xor shifted low ≡ nim_add (nim_mul a b) (nim_mul c d)
+    shifted ≡ nim_mul high (2 ^ width k) → bit_xor shifted low ≡ nim_add (nim_mul a b) (nim_mul c d)
 unfolding nim_add
 sum_by_halves k a b c d high low shifted hb hd is_high is_low moved =
     let f = 2 ^ width k in
@@ -247,9 +239,8 @@ sum_by_halves k a b c d high low shifted hb hd is_high is_low moved =
     sym (ap₂ nim_add (times_halves k a b hb) (times_halves k c d hd))
 
 -- a product as the sum of those with the low half, and of the product with F with the high one
-pub product_of_factors : (k a c shifted once other out : ℕ) → c < 2 ^ width (suc k) → shifted ≡
-    nim_mul a (2 ^ width k) →
-    once ≡ a → other ≡ shifted →
+pub product_of_factors : (k a c shifted once other out : ℕ) → c < 2 ^ width (suc k) →
+    shifted ≡ nim_mul a (2 ^ width k) → once ≡ a → other ≡ shifted →
     out ≡ nim_add (nim_mul once (c % 2 ^ width k)) (nim_mul other (c / 2 ^ width k)) → out ≡ nim_mul a c
 product_of_factors k a c shifted once other out h moved first second is =
     let f = 2 ^ width k in

@@ -32,8 +32,7 @@ by_16_holds = refl
 
 -- the product of a byte with a number below 16
 pub product_at : (c b : ℕ) → c < 256 → b < 16 → get_or (row c) b 0 ≡ nim_mul b c
-product_at c b hc hb =
-    eqb-true _ _ (at_each 16 (λ b. get_or (row c) b 0 == product 3 b c)
+product_at c b hc hb = eqb-true _ _ (at_each 16 (λ b. get_or (row c) b 0 == product 3 b c)
     (at_each 256 row_test rows_hold c hc) b hb) ∙
     sym (nim_mul_at 3 b c (omega arith) hc)
 
@@ -85,8 +84,7 @@ high_ok v fits =
     (below_from_Fits w8 v fits.1) in
     SwzOk-from_below w8 16 1 16 0 (zip2 down v (replicate 16 4)) refl (omega (
       arith,
-      length-zip2 down v
-          (replicate 16 4) fits.0,
+      length-zip2 down v (replicate 16 4) fits.0,
     ))
     (Each1-zip2 down (λ j. j < 16) v (replicate 16 4) (Each2-splat (λ a b. down a b < 16) v 16 4 small))
 
@@ -108,8 +106,7 @@ pub products_of_lanes : (c : ℕ) (v : List ℕ) → c < 256 → AreLanes v →
     zip2 bit_xor (swz_l w8 16 (row c) 0 (zip2 bit_and v (replicate 16 15)))
     (swz_l w8 16 (row (get_or BY_16 c 0)) 0 (zip2 down v (replicate 16 4))) ≡
     map (λ byte. nim_mul byte c) v
-products_of_lanes c v hc fits =
-    ext_get_or 0 (zip2 bit_xor low high) (map (λ byte. nim_mul byte c) v)
+products_of_lanes c v hc fits = ext_get_or 0 (zip2 bit_xor low high) (map (λ byte. nim_mul byte c) v)
     (length-zip2 bit_xor low high even ∙ long_low ∙ sym (length-map v (λ byte. nim_mul byte c) ∙ fits.0))
     (λ i h. at i (omega (arith, h, length-zip2 bit_xor low high even)))
   where
@@ -120,13 +117,11 @@ products_of_lanes c v hc fits =
     high = swz_l w8 16 (row (get_or BY_16 c 0)) 0 (zip2 down v (replicate 16 4))
 
     long_low : length low ≡ 16
-    long_low =
-        length-swz_l w8 16 (row c) 0 (zip2 bit_and v (replicate 16 15)) ∙
+    long_low = length-swz_l w8 16 (row c) 0 (zip2 bit_and v (replicate 16 15)) ∙
         length-zip2 bit_and v (replicate 16 15) fits.0 ∙ fits.0
 
     long_high : length high ≡ 16
-    long_high =
-        length-swz_l w8 16 (row (get_or BY_16 c 0)) 0 (zip2 down v (replicate 16 4)) ∙
+    long_high = length-swz_l w8 16 (row (get_or BY_16 c 0)) 0 (zip2 down v (replicate 16 4)) ∙
         length-zip2 down v (replicate 16 4) fits.0 ∙ fits.0
 
     even : length low ≡ length high
@@ -141,8 +136,7 @@ products_of_lanes c v hc fits =
         ap₂ bit_xor
         (looked_up (row c) v bit_and 15 i fits.0 (omega (arith, h, long_low)) (omega (
           arith,
-          and_le_r
-              (get_or v i 0) 15,
+          and_le_r (get_or v i 0) 15,
         )))
         (looked_up (row (get_or BY_16 c 0)) v down 4 i fits.0 (omega (arith, h, long_low)) (omega
         (arith, small))) ∙

@@ -30,14 +30,12 @@ byte_of_low m i h l less =
 
 -- the high part of a number
 high_part : (m h l : ℕ) → l < 256 ^ m → (h * 256 ^ m + l) / 256 ^ m ≡ h
-high_part m h l less =
-    ap (λ n. n / 256 ^ m) (let e : h * 256 ^ m + l ≡ l + h * 256 ^ m = omega arith in e)
+high_part m h l less = ap (λ n. n / 256 ^ m) (let e : h * 256 ^ m + l ≡ l + h * 256 ^ m = omega arith in e)
     ∙ add-mul-div_right l h (positive m) ∙ ap (λ n. n + h) (div-eq_of_lt less) ∙ zero-add h
 
 -- a byte above the lowest m is one of the number without those
 byte_above : (m i n : ℕ) → m ≤ i → n / 256 ^ i % 256 ≡ n / 256 ^ m / 256 ^ (i - m) % 256
-byte_above m i n more =
-    ap (λ d. n / d % 256) (ap (λ j. 256 ^ j) (let e : i ≡ m + (i - m) = omega arith in e)
+byte_above m i n more = ap (λ d. n / d % 256) (ap (λ j. 256 ^ j) (let e : i ≡ m + (i - m) = omega arith in e)
     ∙ pow-add 256 m (i - m))
     ∙ ap (λ n. n % 256) (sym (div-div-eq-div-mul n (256 ^ m) (256 ^ (i - m))))
 
@@ -62,12 +60,10 @@ acts_on_halves c k m hc same acts a i ha hi =
     let upper : a / y ≡ a / 256 ^ m = ap (λ n. a / n) same in
     let small : l < 256 ^ m = rw (← same) (product-lt k (a % y) c low hc) in
     elim (cases_lt i m) [
-      | inl less ↦
-          ap (λ n. n / 256 ^ i % 256) whole ∙ byte_of_low m i h l less ∙ acts (a % y) i low less
+      | inl less ↦ ap (λ n. n / 256 ^ i % 256) whole ∙ byte_of_low m i h l less ∙ acts (a % y) i low less
           ∙ ap (λ n. product 3 n c) (sym (byte_of_low m i (a / y) (a % y) less)
           ∙ ap (λ n. n / 256 ^ i % 256) parts)
-      | inr more ↦
-          ap (λ n. n / 256 ^ i % 256) whole ∙ byte_above m i (h * 256 ^ m + l) more
+      | inr more ↦ ap (λ n. n / 256 ^ i % 256) whole ∙ byte_above m i (h * 256 ^ m + l) more
           ∙ ap (λ n. n / 256 ^ (i - m) % 256) (high_part m h l small)
           ∙ acts (a / y) (i - m) high (omega arith)
           ∙ ap (λ n. product 3 n c) (ap (λ n. n / 256 ^ (i - m) % 256) upper ∙ sym (byte_above m i a more))
@@ -83,11 +79,8 @@ acts_on_byte c hc a i ha hi =
 
 -- at the width of a symbol
 acts_on_symbol : (c : ℕ) → c < 256 → ActsOn c 7 16
-acts_on_symbol c hc =
-    acts_on_halves c 6 8 (omega arith) refl
-    (acts_on_halves c 5 4 (omega arith) refl
-    (acts_on_halves c 4 2 (omega arith) refl
-    (acts_on_halves c 3 1 hc refl (acts_on_byte c hc))))
+acts_on_symbol c hc = acts_on_halves c 6 8 (omega arith) refl (acts_on_halves c 5 4 (omega arith) refl
+    (acts_on_halves c 4 2 (omega arith) refl (acts_on_halves c 3 1 hc refl (acts_on_byte c hc))))
 
 -- bytes that are each the image of a byte
 map-bytes_low_first : (f : ℕ → ℕ) (i k n m : ℕ) → ((j : ℕ) → j < i + k → byte_at j m ≡ f (byte_at j n)) →
@@ -100,9 +93,7 @@ map-bytes_low_first f i (suc k) n m h =
 pub bytes_of_product : (a c : ℕ) → a < 2 ^ 128 → c < 256 →
     to_le_bytes w128 (nim_mul a c) ≡ map (λ byte. nim_mul byte c) (to_le_bytes w128 a)
 bytes_of_product a c ha hc =
-    map-bytes_low_first (λ byte. nim_mul byte c) 0 16 a (nim_mul a c)
-    (λ j less.
-    byte_at_is j (nim_mul a c)
+    map-bytes_low_first (λ byte. nim_mul byte c) 0 16 a (nim_mul a c) (λ j less. byte_at_is j (nim_mul a c)
     ∙ ap (λ n. n / 256 ^ j % 256) (nim_mul_at 7 a c ha (omega arith))
     ∙ acts_on_symbol c hc a j ha (omega arith)
     ∙ sym (nim_mul_at 3 (a / 256 ^ j % 256) c (mod_below (a / 256 ^ j) 256 (omega arith)) hc)
@@ -111,6 +102,5 @@ bytes_of_product a c ha hc =
 -- so the product is the number of those bytes
 pub product_by_bytes : (a c : ℕ) → a < 2 ^ 128 → c < 256 →
     nim_mul a c ≡ from_le_bytes w128 (map (λ byte. nim_mul byte c) (to_le_bytes w128 a))
-product_by_bytes a c ha hc =
-    sym (from_to (nim_mul a c) (nim_mul-lt 7 a c ha (omega arith)))
+product_by_bytes a c ha hc = sym (from_to (nim_mul a c) (nim_mul-lt 7 a c ha (omega arith)))
     ∙ ap (from_le_bytes w128) (bytes_of_product a c ha hc)

@@ -18,8 +18,7 @@ module _ (points values : List ℕ) (even : length points ≡ length values) (ap
   -- without a quotient
   pub no_quotient : HasNoQuotient r f → NoneDecodes points values keep fix
   no_quotient h = record {
-    none =
-        λ p. none_decodes points values even apart below keep fix r f row wide narrow some p h;
+    none = λ p. none_decodes points values even apart below keep fix r f row wide narrow some p h;
   }
 
   module _ (q : List ℕ) (quotient : IsQuotient r f q) where
@@ -31,20 +30,18 @@ module _ (points values : List ℕ) (even : length points ≡ length values) (ap
     -- a quotient of too many coefficients
     pub too_long : keep < length q → NoneDecodes points values keep fix
     too_long h = record {
-      none =
-          λ p is. omega (arith, is.short, ap length (is_quotient p is), length-trim nim nim_laws p);
+      none = λ p is. omega (arith, is.short, ap length (is_quotient p is), length-trim nim nim_laws p);
     }
 
     -- a quotient that agrees too seldom
     pub too_few : matches q points values + fix < length points → NoneDecodes points values keep fix
     too_few h = record {
-      none =
-          λ p is. omega (
-            arith,
-            is.near,
-            agree_same nim p q points (map Some values)
-                (λ x. sym (value-trim nim nim_laws p x) ∙ ap (λ u. value u x) (sym (is_quotient p is))),
-          );
+      none = λ p is. omega (
+        arith,
+        is.near,
+        agree_same nim p q points (map Some values)
+            (λ x. sym (value-trim nim nim_laws p x) ∙ ap (λ u. value u x) (sym (is_quotient p is))),
+      );
     }
 
     -- a quotient of few coefficients that agrees often enough

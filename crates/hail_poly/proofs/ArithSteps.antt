@@ -11,9 +11,8 @@ value-zeros n x = value-zero nim nim_laws (replicate n 0) x (Each-zeros n)
 -- two polynomials added to zeros are their sum
 pub sum_made : (n : ℕ) (p q : List ℕ) → trim (plus (plus (replicate n 0) (scale 1 p)) (scale 1 q))
     ≡ trim (plus p q)
-sum_made n p q =
-    same_from_values nim nim_laws nim_endless (plus (plus (replicate n 0) (scale 1 p)) (scale 1 q)) (plus p q)
-    (λ x. cc (
+sum_made n p q = same_from_values nim nim_laws nim_endless
+    (plus (plus (replicate n 0) (scale 1 p)) (scale 1 q)) (plus p q) (λ x. cc (
       value-plus nim nim_laws (plus (replicate n 0) (scale 1 p)) (scale 1 q) x,
       value-plus nim nim_laws (replicate n 0) (scale 1 p) x,
       value-scale nim nim_laws 1 p x,
@@ -48,10 +47,8 @@ product_step into p q next k c lt fits read made before x =
 
 -- all coefficients
 pub product_end : (into p q : List ℕ) (k : ℕ) → k ≡ length p →
-    ((x : ℕ) → value into x ≡ nim_mul (value (take k p) x) (value q x)) →
-    trim into ≡ trim (times p q)
-product_end into p q k all before =
-    same_from_values nim nim_laws nim_endless into (times p q)
+    ((x : ℕ) → value into x ≡ nim_mul (value (take k p) x) (value q x)) → trim into ≡ trim (times p q)
+product_end into p q k all before = same_from_values nim nim_laws nim_endless into (times p q)
     (λ x. before x ∙ ap (λ u. nim_mul (value u x) (value q x)) (ap (λ n. take n p) all ∙ take-length p)
     ∙ sym (value-times nim nim_laws p q x))
 
@@ -62,17 +59,15 @@ not_empty (a ∷ p) h = omega arith
 
 -- the row that a division ends with
 pub division_made : (p d z r q : List ℕ) → Reduces (take (length p) p) z d (1 ∷ []) r q →
-    ((x : ℕ) → value z x ≡ 0) →
-    length r < length d → r ≡ trim r → IsDivision p d (trim q) r
+    ((x : ℕ) → value z x ≡ 0) → length r < length d → r ≡ trim r → IsDivision p d (trim q) r
 division_made p d z r q h zeros less trimmed =
     record {
       values = values;
-      whole = same_from_values nim nim_laws nim_endless p (plus (times (trim q) d) r)
-          (λ x. cc (
-            values x,
-            value-plus nim nim_laws (times (trim q) d) r x,
-            value-times nim nim_laws (trim q) d x,
-          ));
+      whole = same_from_values nim nim_laws nim_endless p (plus (times (trim q) d) r) (λ x. cc (
+        values x,
+        value-plus nim nim_laws (times (trim q) d) r x,
+        value-times nim nim_laws (trim q) d x,
+      ));
       shorter = less;
       quotient = sym (trim_trim q);
       rest = trimmed;
@@ -89,16 +84,14 @@ one_not_zero = omega arith
 -- the interpolating polynomial has no more coefficients than there are points
 pub interpolated_short : (points values : List ℕ) → length points ≡ length values →
     length (trim (interpolate points values)) ≤ length points
-interpolated_short points values even =
-    omega (
-      arith,
-      length-trim nim nim_laws (interpolate points values),
-      length-interpolate nim nim_laws points values even,
-    )
+interpolated_short points values even = omega (
+  arith,
+  length-trim nim nim_laws (interpolate points values),
+  length-interpolate nim nim_laws points values even,
+)
 
 -- it takes the values at the points
 pub interpolated_takes : (points values : List ℕ) → length points ≡ length values → Apart points →
     TakesSymbols (trim (interpolate points values)) points values
-interpolated_takes points values even apart =
-    Takes-trim nim nim_laws (interpolate points values) points values
-    (interpolate_takes nim nim_laws points values one_not_zero even apart)
+interpolated_takes points values even apart = Takes-trim nim nim_laws (interpolate points values) points
+    values (interpolate_takes nim nim_laws points values one_not_zero even apart)

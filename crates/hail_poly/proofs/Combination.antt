@@ -28,10 +28,8 @@ combination p w (here short) old new = new
 combination {below} {r0} {f0} {r1} {f1} p w (next q r2 f2 more values less size is row) old new =
     combination p w row new (record {
       multiple = plus old.multiple (times q new.multiple);
-      values = λ x.
-          next_at (value r0 x) (value f0 x) (value r1 x) (value f1 x) (value r2 x) (value f2 x) (value q x)
-          (value p x) (value w x)
-          (value old.multiple x) (value new.multiple x) (values x)
+      values = λ x. next_at (value r0 x) (value f0 x) (value r1 x) (value f1 x) (value r2 x) (value f2 x)
+          (value q x) (value p x) (value w x) (value old.multiple x) (value new.multiple x) (values x)
           (ap (λ g. value g x) is ∙ value-trim nim nim_laws (plus f0 (times q f1)) x
           ∙ value-plus nim nim_laws f0 (times q f1) x ∙
           ap (nim_add (value f0 x)) (value-times nim nim_laws q f1 x)) (old.values x) (new.values x) ∙
@@ -50,8 +48,7 @@ whole_begins : (p w : List ℕ) → IsCombination w [] p w
 whole_begins p w =
     record {
       multiple = 1 ∷ [];
-      values = λ x.
-          solve nim_ring (value p x ∷ value w x ∷ []) (v 1) ((o ⊡ v 0) ⊞ (i ⊡ v 1)) refl ∙
+      values = λ x. solve nim_ring (value p x ∷ value w x ∷ []) (v 1) ((o ⊡ v 0) ⊞ (i ⊡ v 1)) refl ∙
           sym (ap (λ t. nim_add (nim_mul t (value p x)) (nim_mul (value (1 ∷ []) x) (value w x)))
           (value-nothing x) ∙
           ap (λ t. nim_add (nim_mul 0 (value p x)) (nim_mul t (value w x))) (value-constant 1 x));
@@ -62,8 +59,7 @@ rest_begins : (p w : List ℕ) → IsCombination p (1 ∷ []) p w
 rest_begins p w =
     record {
       multiple = [];
-      values = λ x.
-          solve nim_ring (value p x ∷ value w x ∷ []) (v 0) ((i ⊡ v 0) ⊞ (o ⊡ v 1)) refl ∙
+      values = λ x. solve nim_ring (value p x ∷ value w x ∷ []) (v 0) ((i ⊡ v 0) ⊞ (o ⊡ v 1)) refl ∙
           sym (ap (λ t. nim_add (nim_mul t (value p x)) (nim_mul (value [] x) (value w x)))
           (value-constant 1 x) ∙
           ap (λ t. nim_add (nim_mul 1 (value p x)) (nim_mul t (value w x))) (value-nothing x));

@@ -21,8 +21,7 @@ module _ (p d q r s t : List ℕ) (trimmed : d ≡ trim d) (first : IsDivision p
   -- the quotients are one where their sum is zero
   same_if_zero : (a b : List ℕ) → a ≡ trim a → b ≡ trim b → ((x : ℕ) → nim_add (value a x) (value b x) ≡ 0) →
       a ≡ b
-  same_if_zero a b ta tb zero =
-      ta ∙ same_from_values nim nim_laws nim_endless a b
+  same_if_zero a b ta tb zero = ta ∙ same_from_values nim nim_laws nim_endless a b
       (λ x. sum_zero nim_ring (value a x) (value b x) (zero x)) ∙ sym tb
 
   gap_at : (x : ℕ) → nim_add (value r x) (value t x) ≡ nim_mul (value d x) (nim_add (value q x) (value s x))
@@ -33,13 +32,10 @@ module _ (p d q r s t : List ℕ) (trimmed : d ≡ trim d) (first : IsDivision p
   quotient_zero [] e x =
       sym (value-plus nim nim_laws q s x) ∙ sym (value-trim nim nim_laws (plus q s) x) ∙ ap (λ u. value u x) e
       ∙ value-nothing x
-  quotient_zero (a ∷ u) e x =
-      absurd (product_not_shorter nim nim_laws d (a ∷ u) (trim (plus r t)) (omega (arith, first.shorter))
-      (omega arith)
-      (lead_of d trimmed (omega (arith, first.shorter)))
+  quotient_zero (a ∷ u) e x = absurd (product_not_shorter nim nim_laws d (a ∷ u) (trim (plus r t))
+      (omega (arith, first.shorter)) (omega arith) (lead_of d trimmed (omega (arith, first.shorter)))
       (lead_of (a ∷ u) (sym e ∙ sym (trim_trim (plus q s)) ∙ ap trim e) (omega arith))
-      (same_from_values nim nim_laws nim_endless (plus r t) (times d (a ∷ u)) at_any)
-      (omega (
+      (same_from_values nim nim_laws nim_endless (plus r t) (times d (a ∷ u)) at_any) (omega (
         arith,
         length-trim nim nim_laws (plus r t),
         length-plus nim nim_laws r t,
@@ -48,8 +44,7 @@ module _ (p d q r s t : List ℕ) (trimmed : d ≡ trim d) (first : IsDivision p
       )))
     where
       at_any : (y : ℕ) → value (plus r t) y ≡ value (times d (a ∷ u)) y
-      at_any y =
-          value-plus nim nim_laws r t y ∙ gap_at y ∙
+      at_any y = value-plus nim nim_laws r t y ∙ gap_at y ∙
           ap (nim_mul (value d y)) (sym (value-plus nim nim_laws q s y)
           ∙ sym (value-trim nim nim_laws (plus q s) y) ∙ ap (λ w. value w y) e) ∙
           sym (value-times nim nim_laws d (a ∷ u) y)
@@ -60,7 +55,6 @@ module _ (p d q r s t : List ℕ) (trimmed : d ≡ trim d) (first : IsDivision p
 
   -- the remainders are one
   pub same_remainder : r ≡ t
-  same_remainder =
-      same_if_zero r t first.rest second.rest
+  same_remainder = same_if_zero r t first.rest second.rest
       (λ x. gap_at x ∙ ap (nim_mul (value d x)) (quotient_zero (trim (plus q s)) refl x)
       ∙ nim_ring.mul_zero (value d x))

@@ -5,14 +5,13 @@ use Rattle.algebra_laws.proofs.Division.{get_or-scale}
 -- the first coefficients less the last, which is zero
 cut : (p : List ℕ) (n m x : ℕ) → n < m → m ≡ n + 1 → m ≤ length p → get_or p n 0 ≡ 0 →
     value (take n p) x ≡ value (take m p) x
-cut p n m x lt e h z =
-    rw e (sym (cc (
-      value-trim nim nim_laws (take (n + 1) p) x,
-      value-trim nim nim_laws (take n p) x,
-      take_more p n 0 (omega arith),
-      ap trim (take_more p n 0 (omega arith)),
-      trim-zero_last nim nim_laws (take n p) (get_or p n 0) z,
-    )))
+cut p n m x lt e h z = rw e (sym (cc (
+  value-trim nim nim_laws (take (n + 1) p) x,
+  value-trim nim nim_laws (take n p) x,
+  take_more p n 0 (omega arith),
+  ap trim (take_more p n 0 (omega arith)),
+  trim-zero_last nim nim_laws (take n p) (get_or p n 0) z,
+)))
 
 -- one multiple more is taken away: the row after it
 reduce_by : (R0 F0 r0 f0 r1 f1 : List ℕ) (n s c inverse n' : ℕ) → Reduces R0 F0 r1 f1 (take n r0) f0 →
@@ -34,8 +33,7 @@ reduce_by R0 F0 r0 f0 r1 f1 n s c inverse n' before hR h0 some le is_s hf is_inv
       );
       rest = λ x. cc (
         reduce_rest nim nim_laws (value before.by x) (value (shifted nim s c) x) (value r1 x) (value R0 x)
-            (value (take n r0) x) (value (take n' new) x)
-            (before.rest x) (new_value x),
+            (value (take n r0) x) (value (take n' new) x) (before.rest x) (new_value x),
         value-plus nim nim_laws before.by (shifted nim s c) x,
       );
       factor = λ x. cc (
@@ -104,8 +102,7 @@ reduce_step R0 F0 r0 f0 r1 f1 r2 f2 n s c inverse n' before hR h0 some le is_s h
 
 -- before any multiple is taken away
 pub reduce_start : (r0 f0 r1 f1 : List ℕ) (len n : ℕ) → n ≤ length (take len r0) →
-    take n (take len r0) ≡ trim (take len r0) →
-    Reduces (take len r0) f0 r1 f1 (take n r0) f0
+    take n (take len r0) ≡ trim (take len r0) → Reduces (take len r0) f0 r1 f1 (take n r0) f0
 unfolding value_over
 reduce_start r0 f0 r1 f1 len n le made =
     record {
@@ -129,8 +126,7 @@ stays_at p m n le e =
 
 -- the inverse that the code took
 pub inverse_of : (p : List ℕ) (k a b : ℕ) (r : Option ℕ) → k < length p → a ≡ get_or p k a →
-    get_or p k 0 ≢ 0 →
-    IfSome r (λ t. t ≡ nim_inv a) → r ≡ Some b → nim_mul b (get_or p k 0) ≡ 1
+    get_or p k 0 ≢ 0 → IfSome r (λ t. t ≡ nim_inv a) → r ≡ Some b → nim_mul b (get_or p k 0) ≡ 1
 inverse_of p k a b r lt read ne is_inv is_b =
     let same : a ≡ get_or p k 0 = get_or_read p k a lt read 0 in
     let made : b ≡ nim_inv a = rw is_b at is_inv in
@@ -192,9 +188,8 @@ advance_rows R0 F0 R1 F1 r0 f0 r2 f2 seen oldr oldf len n m nr nf h is_r is_f lo
 
 -- one row more before the first short one
 pub go_on_step : (r0 f0 r1 f1 r2 f2 : List ℕ) (room below : ℕ) → Reduces r0 f0 r1 f1 r2 f2 →
-    below < length r1 → length r2 < length r1 →
-    length r1 < length r0 → f2 ≡ trim f2 → (r f : List ℕ) → FirstRow nim below r1 f1 r2 f2 r f →
-    FirstRow nim below r0 f0 r1 f1 r f
+    below < length r1 → length r2 < length r1 → length r1 < length r0 → f2 ≡ trim f2 → (r f : List ℕ) →
+    FirstRow nim below r1 f1 r2 f2 r f → FirstRow nim below r0 f0 r1 f1 r f
 go_on_step r0 f0 r1 f1 r2 f2 room below h more less falls trimmed r f row =
     next h.by r2 f2 more h.rest less (omega (arith, h.size))
     (trimmed ∙ same_from_values nim nim_laws nim_endless f2 (plus f0 (times_over nim h.by f1)) at_any) row
@@ -213,11 +208,9 @@ go_on_step r0 f0 r1 f1 r2 f2 room below h more less falls trimmed r f row =
 
 -- how long the next cofactor is
 pub go_on_size : (r0 f0 r1 f1 r2 f2 : List ℕ) (room : ℕ) → Reduces r0 f0 r1 f1 r2 f2 → f2 ≡ trim f2 →
-    length r1 < length r0 →
-    length f0 + length r1 ≤ room + 1 → length f1 + length r0 ≤ room + 1 → length r0 ≤ room →
-    length f2 + length r1 ≤ room + 1
-go_on_size r0 f0 r1 f1 r2 f2 room h trimmed falls size0 size1 top =
-    of_size f1 refl
+    length r1 < length r0 → length f0 + length r1 ≤ room + 1 → length f1 + length r0 ≤ room + 1 →
+    length r0 ≤ room → length f2 + length r1 ≤ room + 1
+go_on_size r0 f0 r1 f1 r2 f2 room h trimmed falls size0 size1 top = of_size f1 refl
   where
     at_any : (x : ℕ) → value f2 x ≡ value (plus f0 (times_over nim h.by f1)) x
     at_any x = cc (

@@ -20,13 +20,12 @@ length-power m = omega (arith, length-append {A = ℕ} (replicate m 0) (1 ∷ []
 -- after load_key, euclid may be called
 pub key_loaded : (syndromes : List ℕ) (m size : ℕ) (work : Registers) → length syndromes ≤ m →
     work ≡ record { size = size; whole = power m; rest = key syndromes; factor = 1 ∷ [] } → IsLoaded work
-key_loaded syndromes m size work few e =
-    rw e (record {
-      shorter = omega (
-        arith,
-        length-power m,
-        length-trim nim nim_laws (reverse syndromes),
-        length-reverse syndromes,
-      );
-      one = refl;
-    })
+key_loaded syndromes m size work few e = rw e (record {
+  shorter = omega (
+    arith,
+    length-power m,
+    length-trim nim nim_laws (reverse syndromes),
+    length-reverse syndromes,
+  );
+  one = refl;
+})

@@ -113,9 +113,8 @@ pub divisor_not_zero : (points whole : List ℕ) (done x : ℕ) → done < lengt
     x ≡ get_or points (length points - 1 - done) x →
     take (done + 1) whole ≡ vanish (drop (length points - done) points) →
     value (take (done + 1) whole) x ≡ 0 → ⊥
-divisor_not_zero points whole done x lt apart read is_whole e =
-    vanish_else nim nim_laws (drop (length points - done) points) x one_not_zero fresh
-    (cc (ap (λ t. value t x) is_whole, e))
+divisor_not_zero points whole done x lt apart read is_whole e = vanish_else nim nim_laws
+    (drop (length points - done) points) x one_not_zero fresh (cc (ap (λ t. value t x) is_whole, e))
   where
     i : ℕ
     i = length points - (done + 1)

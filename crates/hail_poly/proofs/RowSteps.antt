@@ -44,14 +44,13 @@ trim-one n = rw (trim-zeros n) refl
 pub started : (rest factor zeros : List ℕ) (n m : ℕ) → IsDivisionRow rest n factor m →
     zeros ≡ replicate (length factor) 0 → 0 < length rest → IsDivisionRow rest n (set zeros 0 1) 1
 started rest [] zeros n m row z some = absurd (let h = row.same in omega arith)
-started rest (a ∷ factor) zeros n m row z some =
-    rw z (record {
-      same = let h = row.same in omega (arith, length-replicate {A = ℕ} (length factor) 0);
-      rest_fits = row.rest_fits;
-      factor_fits = omega arith;
-      rest_trimmed = row.rest_trimmed;
-      factor_trimmed = sym (trim-one (length factor));
-    })
+started rest (a ∷ factor) zeros n m row z some = rw z (record {
+  same = let h = row.same in omega (arith, length-replicate {A = ℕ} (length factor) 0);
+  rest_fits = row.rest_fits;
+  factor_fits = omega arith;
+  rest_trimmed = row.rest_trimmed;
+  factor_trimmed = sym (trim-one (length factor));
+})
 
 -- what has no zeros at the end stays as it is
 pub trim_trim : (p : List ℕ) → trim (trim p) ≡ trim p

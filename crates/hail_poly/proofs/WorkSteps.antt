@@ -6,8 +6,7 @@ use Rattle.hail_poly.proofs.RowSteps.{trim_trim}
 -- a cofactor that began with 0 and lost multiples of 1 is the quotient
 pub by_is : (p z f r q : List ℕ) (h : Reduces p z f (1 ∷ []) r q) (x : ℕ) → value z x ≡ 0 →
     value h.by x ≡ value q x
-by_is p z f r q h x zero =
-    sum_zero nim_ring (value h.by x) (value q x)
+by_is p z f r q h x zero = sum_zero nim_ring (value h.by x) (value q x)
     (cc (h.factor x, zero, value-constant 1 x, nim_ring.mul_one (value h.by x)))
 
 -- where no remainder is left, the cofactor is the quotient
@@ -37,8 +36,7 @@ no_quotient p f r q h trimmed some less lead = record { none = none }
     none w is = go (trim (plus w h.by)) refl
       where
         at_any : (x : ℕ) → value r x ≡ nim_mul (value f x) (value (trim (plus w h.by)) x)
-        at_any x =
-            solve nim_ring (value r x ∷ value h.by x ∷ value f x ∷ []) (v 0)
+        at_any x = solve nim_ring (value r x ∷ value h.by x ∷ value f x ∷ []) (v 0)
             ((v 1 ⊡ v 2) ⊞ ((v 1 ⊡ v 2) ⊞ v 0)) refl ∙
             ap (λ t. nim_add (nim_mul (value h.by x) (value f x)) t)
             (sym (h.rest x) ∙ value-trim nim nim_laws p x ∙ is x) ∙
@@ -53,8 +51,7 @@ no_quotient p f r q h trimmed some less lead = record { none = none }
             same_from_values nim nim_laws nim_endless r []
             (λ x. at_any x ∙ ap (λ u. nim_mul (value f x) (value u x)) e ∙ nim_ring.mul_zero (value f x)) in
             omega (arith, ap length (trimmed ∙ zero))
-        go (a ∷ u) e =
-            product_not_shorter nim nim_laws f (a ∷ u) r (omega arith) (omega arith)
+        go (a ∷ u) e = product_not_shorter nim nim_laws f (a ∷ u) r (omega arith) (omega arith)
             (lead_of f lead (omega arith))
             (lead_of (a ∷ u) (sym e ∙ sym (trim_trim (plus w h.by)) ∙ ap trim e) (omega arith))
             (trimmed ∙ same_from_values nim nim_laws nim_endless r (times f (a ∷ u))

@@ -31,8 +31,7 @@ pub begun-kept : (c next : Client) (d : Devices) (event : Event) (outcome : Outc
     → ((w u : State) → Happens 8 0 w event outcome u → OneMore w u) → StandsWhereOpen c d
     → ((w : State) (there : Devices) (moment : ℕ) → ClientStands c there w →
     MakesEvent w moment event outcome next there) → KeepsStanding c next d d
-begun-kept c next d event outcome leaves S makes =
-    (let X = somewhere c d S in
+begun-kept c next d event outcome leaves S makes = (let X = somewhere c d S in
     let M = makes X.state X.there 0 X.stands in
     let B = leaves X.state M.state M.happens in
     let was : is_open next ≡ is_open c = sym (open-same next X.there M.state M.stands) ∙ B.is_open
@@ -64,14 +63,13 @@ same-number None (Some v) n m f g e = absurd (false≢true (sym g))
 -- a closed client that changes nothing keeps it
 pub closed-kept : (c next : Client) (d : Devices) → is_open c ≡ false → IsSame c next →
     KeepsStanding c next d d
-closed-kept c next d closed same =
-    (let after = still-closed c.vault next.vault closed same.vault in record {
-      standing = λ opened. absurd (false≢true (sym after ∙ opened));
-      jobs = (let n = same-number c.vault next.vault c.next_job next.next_job closed after same.next_job in
-          omega (arith, n));
-      tells = refl;
-      counts = none-fell d;
-    })
+closed-kept c next d closed same = (let after = still-closed c.vault next.vault closed same.vault in record {
+  standing = λ opened. absurd (false≢true (sym after ∙ opened));
+  jobs = (let n = same-number c.vault next.vault c.next_job next.next_job closed after same.next_job in
+      omega (arith, n));
+  tells = refl;
+  counts = none-fell d;
+})
 
 -- no more providers are used than are handed in
 pub enough : (c : Client) (d : Devices) → StandsWhereOpen c d → uses c ≤ length d.providers
@@ -114,8 +112,7 @@ module _ (c next : Client) (d e : Devices) (tells : is_some e.holds ≡ is_some 
   pub step-kept : (job : ℕ) (outcome : Outcome) → StandsWhereOpen c d → is_open c ≡ true
       → ((w : State) (moment : ℕ) → ClientStands c d w → MakesEvent w moment (Step job) outcome next e) →
       KeepsStanding c next d e
-  step-kept job outcome S opened makes =
-      (let X = S opened in
+  step-kept job outcome S opened makes = (let X = S opened in
       let M = makes X.state 0 X.stands in
       let same = steps X.state job outcome M.state M.happens in
       kept-by X.state M.state X.stands M.stands same
@@ -128,8 +125,7 @@ module _ (c next : Client) (d e : Devices) (tells : is_some e.holds ≡ is_some 
   pub run-kept : (job : ℕ) (t : Option ClientTurn) → StandsWhereOpen c d → is_open c ≡ true
       → ((start : State) (ms : List Moment) → IsReached start ms c d → RunsJobOn start ms job t next e) →
       KeepsStanding c next d e
-  run-kept job t S opened runs =
-      (let X = S opened in
+  run-kept job t S opened runs = (let X = S opened in
       let R = runs X.state [] (record { run = tt; stands = X.stands }) in
       let same = both X.state (now X.state (R.steps ++ [])) R.last.state
       (going X.state job R.steps R.runs.before R.reached.run.2)
@@ -150,8 +146,7 @@ module _ (c : Client) (event : Event) (outcome : Outcome) (holds : Option Cells)
     MakesEvent w moment event outcome c (devices holds faults qs)) where
   counts-at : (told : Option Cells) (n : ℕ) → IsStanding c (devices told n ps) →
       NoCountFell (devices told n ps) (devices told n qs)
-  counts-at told n X =
-      (let M = makes X.state told n 0 X.stands in
+  counts-at told n X = (let M = makes X.state told n 0 X.stands in
       fell X.state M.state (devices told n ps) (devices told n qs)
       (devices-of c.vault c.alone c.next_job _ X.state X.stands) (devices-of c.vault c.alone c.next_job _ M.state M.stands)
       (handed-same c c (devices told n ps) (devices told n qs) refl X.state M.state X.stands M.stands
@@ -181,8 +176,7 @@ module _ (c : Client) (event : Event) (outcome : Outcome) (holds : Option Cells)
 
 -- an init keeps it
 pub init-kept : (c : Client) (old new : Option Cells) (f g : ℕ) (ps : List Provider) →
-    is_some new ≡ is_some old → f ≤ g
-    → (IsStanding c (devices old f ps) → IsStanding c (devices new g ps)) →
+    is_some new ≡ is_some old → f ≤ g → (IsStanding c (devices old f ps) → IsStanding c (devices new g ps)) →
     StandsWhereOpen c (devices old f ps) → KeepsStanding c c (devices old f ps) (devices new g ps)
 init-kept c old new f g ps tells never standing S = record {
   standing = λ opened. standing (S opened);
@@ -193,8 +187,7 @@ init-kept c old new f g ps tells never standing S = record {
 
 -- a stop keeps it
 pub stop-kept : (c next : Client) (old new : Option Cells) (f g : ℕ) (ps : List Provider) →
-    is_some new ≡ is_some old → f ≤ g
-    → is_open next ≡ false → client_next_job next ≡ client_next_job c →
+    is_some new ≡ is_some old → f ≤ g → is_open next ≡ false → client_next_job next ≡ client_next_job c →
     KeepsStanding c next (devices old f ps) (devices new g ps)
 stop-kept c next old new f g ps tells never closed number = record {
   standing = λ opened. absurd (false≢true (sym closed ∙ opened));

@@ -54,17 +54,15 @@ once event came c next d e makes heard start ms R =
 
 -- a job that was run
 pub run : (start : State) (ms : List Moment) (job : ℕ) (t : Option ClientTurn) (next : Client) (e : Devices) →
-    RunsJobOn start ms job t next e
-    → Performs start ms (RunJob job) (Some (came.Stepped t)) next e
+    RunsJobOn start ms job t next e → Performs start ms (RunJob job) (Some (came.Stepped t)) next e
 run start ms job t next e R = record {
   steps = R.steps;
   last = R.last;
   moments = R.runs;
   outcome_is = R.outcome_is;
   reached = R.reached;
-  heard_is =
-      after-step (now start (R.steps ++ ms)) (heard_in start (R.steps ++ ms)) job R.last.event R.last.outcome
-      (step_outcome t) R.runs.step R.outcome_is
+  heard_is = after-step (now start (R.steps ++ ms)) (heard_in start (R.steps ++ ms)) job R.last.event
+      R.last.outcome (step_outcome t) R.runs.step R.outcome_is
       ∙ ap₂ (λ (x y : List Entry). x ++ y) (same-heard start ms job R.steps R.runs.before)
       (turn-heard (now start (R.steps ++ ms)) job t R.heard);
 }

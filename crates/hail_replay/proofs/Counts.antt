@@ -21,10 +21,9 @@ then-fell a b c f g = record {
 
 -- the provider at each place, where one list has those of one state and another those of a later one
 at-place : (ps qs : List Provider) (old new : ℕ → Provider) (on : (j : ℕ) → Onward (old j) (new j)) →
-    length qs ≡ length ps
-    → ((j : ℕ) → j < length ps → slice_get ps j ≡ Some (old j)) →
-    ((j : ℕ) → j < length qs → slice_get qs j ≡ Some (new j))
-    → (j : ℕ) → Onward (provider_at ps j) (provider_at qs j)
+    length qs ≡ length ps → ((j : ℕ) → j < length ps → slice_get ps j ≡ Some (old j)) →
+    ((j : ℕ) → j < length qs → slice_get qs j ≡ Some (new j)) → (j : ℕ) →
+    Onward (provider_at ps j) (provider_at qs j)
 at-place [] [] old new on same P Q j = record { tells = λ h. h; stores = omega arith; others = omega arith }
 at-place [] (q ∷ qs) old new on same P Q j = absurd (omega (arith, same))
 at-place (p ∷ ps) [] old new on same P Q j = absurd (omega (arith, same))
@@ -50,8 +49,7 @@ fell w u d e D E same on = record {
 onward-itself : (w : State) → AllOnward w w
 onward-itself w = record {
   disk = omega arith;
-  provider =
-      λ j. record { tells = λ h. h; stores = omega arith; others = omega arith };
+  provider = λ j. record { tells = λ h. h; stores = omega arith; others = omega arith };
 }
 
 onward-then : (w u v : State) → AllOnward w u → AllOnward u v → AllOnward w v

@@ -143,8 +143,7 @@ carries-on start before done later lines heard c d L e H = record {
 -- the next of the commands left is done
 pub next-done : (all done left : List Instruction) (command : Instruction) →
     all ≡ reverse done ++ command ∷ left → all ≡ reverse (command ∷ done) ++ left
-next-done all done left command is =
-    is ∙ sym (append_assoc (reverse done) (command ∷ []) left)
+next-done all done left command is = is ∙ sym (append_assoc (reverse done) (command ∷ []) left)
     ∙ ap (λ (l : List Instruction). l ++ left) (sym (reverse-append (command ∷ []) done))
 
 -- what an Ok, and what an error gives

@@ -20,8 +20,7 @@ read-of text front old (Some rest) is taken =
 pub whole : (most : ℕ) (text read : List ℕ) (old new : Option (List ℕ)) → old ≡ Some text →
     ReadsUpTo most old new read → length read < most → read ≡ text
 whole most text read old None is reads few = absurd (let e : Some text ≡ None = sym is ∙ reads.front in cc)
-whole most text read old (Some rest) is reads few =
-    (let none : rest ≡ [] = reads.end few in
+whole most text read old (Some rest) is reads few = (let none : rest ≡ [] = reads.end few in
     let e : Some text ≡ Some (read ++ rest) = sym is ∙ reads.front in
     let f : text ≡ read ++ rest = cc in
     sym (f ∙ ap (λ (l : List ℕ). read ++ l) none ∙ append-nil read))
@@ -72,8 +71,7 @@ list-spelled = inr (Once Names, [], refl, refl, inl (tt, refl))
 
 list-done : (start : State) (before : List Moment) → AreLeft start before (devices_of_seen list_before) →
     Replays start before list_commands 0 (sinking list_before list_behind) [] (devices_of_seen list_behind)
-list-done start before L =
-    (let w : State = continued (now start before) in
+list-done start before L = (let w : State = continued (now start before) in
     let m : Moment = record { event = Names; outcome = Closed; state = w } in
     let run : IsRun 8 start (m ∷ called_behind start before) = (tt, refl, (tt, refl, L.run)) in
     record {

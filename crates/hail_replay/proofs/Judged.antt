@@ -47,12 +47,10 @@ module _ (old new : State) (number undecided : ℕ) (counts : List ℕ) where
   audited-open moment BeginScrub h = absurd h
   audited-open moment BeginPack h = absurd h
   audited-open moment (Step job) h = steps job old.is_open refl h
-  audited-open moment (Alter j object stripe place symbol) h =
-      replaces_if (nat_lt j old.handed) j (λ held. HasPlace (held object stripe) place)
-      (with_symbol object stripe place symbol) h
-  audited-open moment (Lose j object stripe) h =
-      replaces_if (nat_lt j old.handed) j (λ held. IsSome (held object stripe))
-      (without_block object stripe) h
+  audited-open moment (Alter j object stripe place symbol) h = replaces_if (nat_lt j old.handed) j
+      (λ held. HasPlace (held object stripe) place) (with_symbol object stripe place symbol) h
+  audited-open moment (Lose j object stripe) h = replaces_if (nat_lt j old.handed) j
+      (λ held. IsSome (held object stripe)) (without_block object stripe) h
   audited-open moment (Stop picks) h = absurd h
   audited-open moment Reopen h = absurd h
   audited-open moment Names h = lists old.is_open h

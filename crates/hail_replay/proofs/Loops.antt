@@ -17,17 +17,15 @@ pub record IsOnCourse (all left : List Instruction) (c : Client) (old new : Devi
 -- commands were done behind every run that left the devices, and their lines were written
 abbrev pub AreDone : List Instruction → List Instruction → Client → Devices → Devices →
     (first last : Option (List ℕ)) → (b f : ℕ) → List Entry → Type 0
-AreDone all left c old new first last b f heard =
-    (start : State) (before : List Moment) → IsSome old.holds → AreLeft start before old →
-    (done : List Instruction) × (all ≡ reverse done ++ left) ×
-    HasDone start (called_behind start before) done 0 (sank first last b f) heard c new
+AreDone all left c old new first last b f heard = (start : State) (before : List Moment) → IsSome old.holds →
+    AreLeft start before old → (done : List Instruction) × (all ≡ reverse done ++ left) × HasDone start
+    (called_behind start before) done 0 (sank first last b f) heard c new
 
 -- commands were done behind every run, and counted
 abbrev pub AreCounted : List ℕ → List Instruction → List Instruction → Client → Devices → Devices →
     TrialCounts → List Entry → Type 0
-AreCounted expected all left c old new counts heard =
-    (start : State) (before : List Moment) → IsSome old.holds → AreLeft start before old →
-    (done : List Instruction) × (all ≡ reverse done ++ left) ×
+AreCounted expected all left c old new counts heard = (start : State) (before : List Moment) →
+    IsSome old.holds → AreLeft start before old → (done : List Instruction) × (all ≡ reverse done ++ left) ×
     HasCounted expected start (called_behind start before) done counts heard c new
 
 -- ---- the course
@@ -83,19 +81,16 @@ module _ (all left : List Instruction) (command : Instruction) (c next : Client)
     (so_far : AreDone all (command ∷ left) c old mid first told b f heard)
     (one : DoesOne command c next mid new told last f g status heard after) where
   done-more : status ≡ 0 → AreDone all left next old new first last b g after
-  done-more ok start before is_told L =
-      (let D = so_far start before is_told L in (
-        command ∷ D.0,
-        next-done all D.0 left command D.1,
-        subst (λ n. HasDone start (called_behind start before) (command ∷ D.0) n
-            (sank first last b g) after next new) ok
-            (one start (called_behind start before) D.0 first b (tells ∙ is_told) low D.2),
-      ))
+  done-more ok start before is_told L = (let D = so_far start before is_told L in (
+    command ∷ D.0,
+    next-done all D.0 left command D.1,
+    subst (λ n. HasDone start (called_behind start before) (command ∷ D.0) n (sank first last b g) after
+        next new) ok (one start (called_behind start before) D.0 first b (tells ∙ is_told) low D.2),
+  ))
 
   done-last : status ≢ 0 → (start : State) (before : List Moment) → IsSome old.holds →
       AreLeft start before old → Replays start before all status (sank first last b g) after new
-  done-last amiss start before is_told L =
-      (let D = so_far start before is_told L in
+  done-last amiss start before is_told L = (let D = so_far start before is_told L in
       let H = one start (called_behind start before) D.0 first b (tells ∙ is_told) low D.2 in
       record {
         done = command ∷ D.0;
@@ -112,10 +107,8 @@ module _ (all left : List Instruction) (command : Instruction) (c next : Client)
 module _ (all : List Instruction) (c : Client) (old new : Devices) (first last : Option (List ℕ)) (b f : ℕ)
     (heard : List Entry) where
   all-done : AreDone all [] c old new first last b f heard → (start : State) (before : List Moment) →
-      IsSome old.holds → AreLeft start before old
-      → Replays start before all 0 (sank first last b f) heard new
-  all-done so_far start before is_told L =
-      (let D = so_far start before is_told L in
+      IsSome old.holds → AreLeft start before old → Replays start before all 0 (sank first last b f) heard new
+  all-done so_far start before is_told L = (let D = so_far start before is_told L in
       record {
         done = D.0;
         left = [];
@@ -132,8 +125,7 @@ module _ (all : List Instruction) (c : Client) (old new : Devices) (first last :
   pub cut-off : (left : List Instruction) → AreDone all left c old new first last b f heard →
       (start : State) (before : List Moment) → IsSome old.holds → AreLeft start before old
       → Replays start before all 70 (sank first last b f) heard new
-  cut-off left so_far start before is_told L =
-      (let D = so_far start before is_told L in
+  cut-off left so_far start before is_told L = (let D = so_far start before is_told L in
       record {
         done = D.0;
         left = left;
@@ -166,16 +158,14 @@ none-counted expected all c d counts fresh is start before told L = (
 -- what a call does that performs and counts one command more
 abbrev pub CountsOne : List ℕ → Instruction → Client → Client → Devices → Devices → (old new : TrialCounts) →
     (heard after : List Entry) → Type 0
-CountsOne expected command c next old new counts now_counts heard after =
-    (start : State) (base : List Moment) (done : List Instruction) → IsSome old.holds →
-    HasCounted expected start base done counts heard c old →
+CountsOne expected command c next old new counts now_counts heard after = (start : State) (base : List Moment)
+    (done : List Instruction) → IsSome old.holds → HasCounted expected start base done counts heard c old →
     HasCounted expected start base (command ∷ done) now_counts after next new
 
 -- and one that performs it, and finds no memory to count it
 abbrev pub RunsOne : Instruction → Client → Client → Devices → Devices → (heard after : List Entry) → Type 0
-RunsOne command c next old new heard after =
-    (start : State) (base : List Moment) (done : List Instruction) → IsSome old.holds →
-    HasRun start base done heard c old → HasRun start base (command ∷ done) after next new
+RunsOne command c next old new heard after = (start : State) (base : List Moment) (done : List Instruction) →
+    IsSome old.holds → HasRun start base done heard c old → HasRun start base (command ∷ done) after next new
 
 module _ (expected : List ℕ) (all left : List Instruction) (command : Instruction) (c next : Client)
     (old mid new : Devices) (counts : TrialCounts) (heard after : List Entry)
@@ -183,18 +173,15 @@ module _ (expected : List ℕ) (all left : List Instruction) (command : Instruct
     (so_far : AreCounted expected all (command ∷ left) c old mid counts heard) where
   counted-more : (more : TrialCounts) → CountsOne expected command c next mid new counts more heard after →
       AreCounted expected all left next old new more after
-  counted-more more one start before is_told L =
-      (let D = so_far start before is_told L in (
-        command ∷ D.0,
-        next-done all D.0 left command D.1,
-        one start (called_behind start before) D.0 (tells ∙ is_told) D.2,
-      ))
+  counted-more more one start before is_told L = (let D = so_far start before is_told L in (
+    command ∷ D.0,
+    next-done all D.0 left command D.1,
+    one start (called_behind start before) D.0 (tells ∙ is_told) D.2,
+  ))
 
   uncounted : RunsOne command c next mid new heard after → (start : State) (before : List Moment) →
-      IsSome old.holds → AreLeft start before old
-      → RunsTo start before all after new
-  uncounted one start before is_told L =
-      (let D = so_far start before is_told L in
+      IsSome old.holds → AreLeft start before old → RunsTo start before all after new
+  uncounted one start before is_told L = (let D = so_far start before is_told L in
       let H = one start (called_behind start before) D.0 (tells ∙ is_told)
       (record { later = D.2.later; lines = D.2.lines; come = D.2.come }) in
       record {
@@ -209,10 +196,8 @@ module _ (expected : List ℕ) (all left : List Instruction) (command : Instruct
 module _ (expected : List ℕ) (all : List Instruction) (c : Client) (old new : Devices) (counts : TrialCounts)
     (heard : List Entry) where
   all-counted : AreCounted expected all [] c old new counts heard → (start : State) (before : List Moment) →
-      IsSome old.holds → AreLeft start before old
-      → CountsTo expected start before all counts heard new
-  all-counted so_far start before is_told L =
-      (let D = so_far start before is_told L in
+      IsSome old.holds → AreLeft start before old → CountsTo expected start before all counts heard new
+  all-counted so_far start before is_told L = (let D = so_far start before is_told L in
       let whole : D.0 ≡ reverse all = sym (reverse-reverse D.0)
       ∙ ap reverse (sym (append-nil (reverse D.0)) ∙ sym D.1) in
       record {
@@ -226,8 +211,7 @@ module _ (expected : List ℕ) (all : List Instruction) (c : Client) (old new : 
   left-uncounted : (left : List Instruction) → AreCounted expected all left c old new counts heard →
       (start : State) (before : List Moment) → IsSome old.holds → AreLeft start before old
       → RunsTo start before all heard new
-  left-uncounted left so_far start before is_told L =
-      (let D = so_far start before is_told L in
+  left-uncounted left so_far start before is_told L = (let D = so_far start before is_told L in
       record {
         done = D.0;
         left = left;
@@ -273,8 +257,7 @@ continued-devices d w A = record {
 -- no event was done
 pub none-run : (all : List Instruction) (d : Devices) (start : State) (before : List Moment) →
     AreLeft start before d → RunsTo start before all [] d
-none-run all d start before L =
-    (let run : IsRun 8 start (called_behind start before) = (tt, refl, L.run) in
+none-run all d start before L = (let run : IsRun 8 start (called_behind start before) = (tt, refl, L.run) in
     record {
       done = [];
       left = all;
@@ -364,8 +347,7 @@ pub go-home : (all left : List Instruction) (c : Client) (old new : Devices) (fi
     (b f : ℕ) (heard : List Entry) → left ≡ []
     → AreDone all left c old new first last b f heard → (start : State) (before : List Moment) →
     IsSome old.holds → AreLeft start before old → Replays start before all 0 (sank first last b f) heard new
-go-home all left c old new first last b f heard is so_far =
-    all-done all c old new first last b f heard
+go-home all left c old new first last b f heard is so_far = all-done all c old new first last b f heard
     (subst (λ (l : List Instruction). AreDone all l c old new first last b f heard) is so_far)
 
 module _ (expected : List ℕ) (all left rest : List Instruction) (command : Instruction) (c next : Client)
@@ -409,6 +391,5 @@ pub count-home : (expected : List ℕ) (all left : List Instruction) (c : Client
     (counts : TrialCounts) (heard : List Entry) → left ≡ []
     → AreCounted expected all left c old new counts heard → (start : State) (before : List Moment) →
     IsSome old.holds → AreLeft start before old → CountsTo expected start before all counts heard new
-count-home expected all left c old new counts heard is so_far =
-    all-counted expected all c old new counts heard
-    (subst (λ (l : List Instruction). AreCounted expected all l c old new counts heard) is so_far)
+count-home expected all left c old new counts heard is so_far = all-counted expected all c old new counts
+    heard (subst (λ (l : List Instruction). AreCounted expected all l c old new counts heard) is so_far)

@@ -36,8 +36,7 @@ pub begun : (c next : Client) (d : Devices) (kind : Kind) (result : Option (Resu
     → ((w : State) (there : Devices) (moment : ℕ) → ClientStands c there w →
     MakesEvent w moment (Begin kind) (client_begin_outcome result) next there)
     → IsPerformed (Once (Begin kind)) (Some (came.Begun result)) c next d d
-begun c next d kind result S makes =
-    begun-by (Begin kind) c next d result
+begun c next d kind result S makes = begun-by (Begin kind) c next d result
     (λ w u h. begins w 8 0 kind None (client_begin_outcome result) u h) (λ w es. refl) S makes
 
 -- the begin of a scrub
@@ -46,8 +45,7 @@ pub scrub-begun : (c next : Client) (d : Devices) (result : Option (Result ℕ B
     → ((w : State) (there : Devices) (moment : ℕ) → ClientStands c there w →
     MakesEvent w moment BeginScrub (client_begin_outcome result) next there)
     → IsPerformed (Once BeginScrub) (Some (came.Begun result)) c next d d
-scrub-begun c next d result S makes =
-    begun-by BeginScrub c next d result
+scrub-begun c next d result S makes = begun-by BeginScrub c next d result
     (λ w u h. begins_alone w _ _ (client_begin_outcome result) u h) (λ w es. refl) S makes
 
 -- the begin of a pack
@@ -56,8 +54,7 @@ pub pack-begun : (c next : Client) (d : Devices) (result : Option (Result ℕ Be
     → ((w : State) (there : Devices) (moment : ℕ) → ClientStands c there w →
     MakesEvent w moment BeginPack (client_begin_outcome result) next there)
     → IsPerformed (Once BeginPack) (Some (came.Begun result)) c next d d
-pack-begun c next d result S makes =
-    begun-by BeginPack c next d result
+pack-begun c next d result S makes = begun-by BeginPack c next d result
     (λ w u h. begins_alone w _ _ (client_begin_outcome result) u h) (λ w es. refl) S makes
 
 -- the begin of a put
@@ -67,19 +64,17 @@ pub put-begun : (c next : Client) (d : Devices) (name bytes : List ℕ) (own : O
     MakesEvent w moment (put_event own name bytes) (client_begin_outcome result) next there)
     → IsPerformed (event_command (read.BeginPut name bytes own)) (Some (came.Begun result)) c next d d
 put-begun c next d name bytes None result S makes = begun c next d (PutJob name bytes) result S makes
-put-begun c next d name bytes (Some profile) result S makes =
-    begun-by (BeginAt profile name bytes) c next d result
-    (λ w u h. begins w 8 0 (PutJob name bytes) (Some profile) (client_begin_outcome result) u h)
+put-begun c next d name bytes (Some profile) result S makes = begun-by (BeginAt profile name bytes) c next d
+    result (λ w u h. begins w 8 0 (PutJob name bytes) (Some profile) (client_begin_outcome result) u h)
     (λ w es. refl) S makes
 
 -- a step, which does nothing where no vault is open
 pub stepped : (job : ℕ) (c next : Client) (d e : Devices) (t : Option ClientTurn) → StandsWhereOpen c d →
-    is_some e.holds ≡ is_some d.holds
-    → ((w : State) (moment : ℕ) → ClientStands c d w → MakesEvent w moment (Step job) (step_outcome t) next e)
-    → ((w : State) → ClientStands c d w →
-    IfSome t (λ turn. HeardIs turn (heard_by (job_of w.jobs job))))
-    → (client_coming c job ≡ IsNoJob → IsSame c next × (e ≡ d))
-    → IsPerformed (Once (Step job)) (Some (came.Stepped t)) c next d e
+    is_some e.holds ≡ is_some d.holds →
+    ((w : State) (moment : ℕ) → ClientStands c d w → MakesEvent w moment (Step job) (step_outcome t) next e) →
+    ((w : State) → ClientStands c d w → IfSome t (λ turn. HeardIs turn (heard_by (job_of w.jobs job)))) →
+    (client_coming c job ≡ IsNoJob → IsSame c next × (e ≡ d)) →
+    IsPerformed (Once (Step job)) (Some (came.Stepped t)) c next d e
 stepped job c next d e t S tells makes heard none = record {
   machine = λ start ms told R. once (Step job) (Some (came.Stepped t)) c next d e makes
       (λ w es T. ap (λ (x : List Entry). es ++ x) (turn-heard w job t (heard w T))) start ms R;

@@ -11,5 +11,4 @@ lists w moment c d S =
 
 -- no vault is open
 pub standing-closed : (c : Client) (ps : List Provider) → is_open c ≡ false → IsStanding c (devices None 0 ps)
-standing-closed c ps closed =
-    closed-standing c 0 ps None closed refl
+standing-closed c ps closed = closed-standing c 0 ps None closed refl

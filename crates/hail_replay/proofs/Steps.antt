@@ -3,8 +3,7 @@ use Rattle.hail_replay.proofs.Words.{◌≡◌, ℕ, ◌+◌, Bool, false, List,
 
 -- steps that went on are not counted
 how_many-more : (is_one : Outcome → Bool) → is_one More ≡ false → (job : ℕ) (steps ms : List Moment) →
-    GoOn job steps
-    → how_many is_one (steps ++ ms) ≡ how_many is_one ms
+    GoOn job steps → how_many is_one (steps ++ ms) ≡ how_many is_one ms
 how_many-more is_one none job [] ms on = refl
 how_many-more is_one none job (m ∷ steps) ms on =
     let here : one_if (is_one m.outcome) ≡ 0 = ap (λ (o : Outcome). one_if (is_one o)) on.1
@@ -66,8 +65,7 @@ same-flags expected a b outcome old same =
 -- counts that took an outcome in saw one
 pub sees_one : (expected : List ℕ) (tolerance : ℕ) (outcome : Outcome) (old new : TrialCounts) →
     new ≡ counts_on expected tolerance outcome old → SeesOne expected tolerance outcome old new
-sees_one expected tolerance outcome old new is commands command ms steps m job came flags on before =
-    is
+sees_one expected tolerance outcome old new is commands command ms steps m job came flags on before = is
     ∙ ap (λ (c : TrialCounts). counts_on expected tolerance outcome c) before
     ∙ ap (λ (o : Outcome). counts_on expected tolerance o (counts_of expected commands ms)) (sym came)
     ∙ same-flags expected tolerance (setup_in m.state).tolerance m.outcome (counts_of expected commands ms)

@@ -55,8 +55,7 @@ not-empty (x ∷ xs) ys ne e = absurd cc
 
 -- the lines of one event more
 pub written-on : (first mid last : Option (List ℕ)) (b f g : ℕ) (lines more : List ℕ) (status : ℕ) → b ≤ f →
-    f ≤ g
-    → WritesLine lines 0 (sank first mid b f) → WritesLine more status (sank mid last f g) →
+    f ≤ g → WritesLine lines 0 (sank first mid b f) → WritesLine more status (sank mid last f g) →
     WritesLine (lines ++ more) status (sank first last b g)
 written-on first mid last b f g lines more status low never so_far (inl (s, is)) =
     (let here = all-written first mid b f lines so_far in

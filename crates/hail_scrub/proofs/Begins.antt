@@ -18,8 +18,7 @@ file_none n master f none = ap (λ (k : ℕ). flat_map (opening_of n f.id) (upto
 actions_more : (n : ℕ) (master : List ℕ) (before : List FileShape) (f : FileShape) →
     flat_map (file_actions n master) (before ++ f ∷ [])
     ≡ flat_map (file_actions n master) before ++ file_actions n master f
-actions_more n master before f =
-    flat_map-append (file_actions n master) before (f ∷ [])
+actions_more n master before f = flat_map-append (file_actions n master) before (f ∷ [])
     ∙ ap (λ (l : List Action). flat_map (file_actions n master) before ++ l)
     (append-nil (file_actions n master f))
 
@@ -66,8 +65,7 @@ module _ (s : Setup) (master : List ℕ) where
   file_at : (fs : List FileShape) (ps : List Pinned) (k : ℕ) (f : FileShape) → AreFilesOf s master fs ps →
       slice_get fs k ≡ Some f → (p : Pinned) × (slice_get ps k ≡ Some p) × IsFileOf s master f p
   file_at [] [] k f are there = absurd (let e : None ≡ Some f = there in cc)
-  file_at (g ∷ fs) (p ∷ ps) zero f are there =
-      (let e : Some g ≡ Some f = there in let h : g ≡ f = cc in
+  file_at (g ∷ fs) (p ∷ ps) zero f are there = (let e : Some g ≡ Some f = there in let h : g ≡ f = cc in
       (p, refl, subst (λ (x : FileShape). IsFileOf s master x p) h are.0))
   file_at (g ∷ fs) (p ∷ ps) (suc k) f are there = file_at fs ps k f are.1 there
   file_at [] (p ∷ ps) k f are there = absurd are
@@ -77,8 +75,7 @@ module _ (s : Setup) (master : List ℕ) where
   file_of : (fs : List FileShape) (ps : List Pinned) (k : ℕ) (p : Pinned) → AreFilesOf s master fs ps →
       slice_get ps k ≡ Some p → (f : FileShape) × (slice_get fs k ≡ Some f) × (f.id ≡ p.id)
   file_of [] [] k p are there = absurd (let e : None ≡ Some p = there in cc)
-  file_of (f ∷ fs) (q ∷ ps) zero p are there =
-      (let e : Some q ≡ Some p = there in let h : q ≡ p = cc in
+  file_of (f ∷ fs) (q ∷ ps) zero p are there = (let e : Some q ≡ Some p = there in let h : q ≡ p = cc in
       (f, refl, are.0.id_is ∙ ap (λ (x : Pinned). x.id) h))
   file_of (f ∷ fs) (q ∷ ps) (suc k) p are there = file_of fs ps k p are.1 there
   file_of [] (q ∷ ps) k p are there = absurd are
@@ -89,8 +86,7 @@ profile_first : (other : ℕ) (ps : List Pinned) (k : ℕ) (p : Pinned) → slic
     ((i : ℕ) (q : Pinned) → slice_get ps i ≡ Some q → q.id ≡ p.id → i ≡ k) →
     pinned_profile other ps p.id ≡ p.profile
 profile_first other [] k p there first = absurd (let e : None ≡ Some p = there in cc)
-profile_first other (q ∷ ps) zero p there first =
-    (let e : Some q ≡ Some p = there in let h : q ≡ p = cc in
+profile_first other (q ∷ ps) zero p there first = (let e : Some q ≡ Some p = there in let h : q ≡ p = cc in
     cond_true (q.id == p.id) q.profile (pinned_profile other ps p.id)
     (eq-eqb q.id p.id (ap (λ (x : Pinned). x.id) h))
     ∙ ap (λ (x : Pinned). x.profile) h)
@@ -127,10 +123,8 @@ actions_of : (s : Setup) (master : List ℕ) (fs : List FileShape) (ps : List Pi
     ≡ flat_map (λ (f : Pinned). on_each_stripe (profiled s f.profile) (length f.bytes)
     (open_actions s f.id)) ps
 actions_of s master [] [] are = refl
-actions_of s master (f ∷ fs) (p ∷ ps) are =
-    (λ i. flat_map (opening_of s.n (are.0.id_is i))
-    (upto (stripes (are.0.object_is i) (are.0.length_is i)))
-    ++ actions_of s master fs ps are.1 i)
+actions_of s master (f ∷ fs) (p ∷ ps) are = (λ i. flat_map (opening_of s.n (are.0.id_is i))
+    (upto (stripes (are.0.object_is i) (are.0.length_is i))) ++ actions_of s master fs ps are.1 i)
 actions_of s master [] (p ∷ ps) are = absurd are
 actions_of s master (f ∷ fs) [] are = absurd are
 
@@ -145,11 +139,9 @@ pub todo_begun : (s : Setup) (master : List ℕ) (files : List FileShape) (m : S
     IsNewScrub s master files m → (items : List Item) (kinds : List Object) →
     AreItems (file_providers files) master kinds files files items →
     m.todo ≡ items_on (file_providers files) items
-todo_begun s master [] m B items kinds are =
-    B.todo_is
+todo_begun s master [] m B items kinds are = B.todo_is
     ∙ sym (ap (λ (l : List Action). l ++ End ∷ []) (are.actions ∙ actions_of s master [] m.files B.files_are))
-todo_begun s master (f ∷ fs) m B items kinds are =
-    B.todo_is
+todo_begun s master (f ∷ fs) m B items kinds are = B.todo_is
     ∙ sym (ap (λ (l : List Action). l ++ End ∷ [])
     (are.actions
     ∙ ap (λ (n : ℕ). flat_map (file_actions n master) (f ∷ fs))

@@ -12,9 +12,8 @@ present_size size (true ∷ flags) symbols zero block fits is =
     ap length (sym g) ∙ length-take-le size symbols
     (let n : length symbols ≡ size + length flags * size = fits ∙ (grind arith) in omega (arith, n)))
 present_size size (false ∷ flags) symbols zero block fits is = absurd (let e : None ≡ Some block = is in cc)
-present_size size (flag ∷ flags) symbols (suc k) block fits is =
-    present_size size flags (drop size symbols) k block
-    (let n : length symbols ≡ size + length flags * size = fits ∙ (grind arith) in
+present_size size (flag ∷ flags) symbols (suc k) block fits is = present_size size flags (drop size symbols) k
+    block (let n : length symbols ≡ size + length flags * size = fits ∙ (grind arith) in
     let d = length-drop size symbols in omega (arith, n, d))
     is
 

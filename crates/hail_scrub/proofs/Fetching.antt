@@ -122,8 +122,7 @@ module _ (p : Progress) (W : IsProgress p) (spot : Spot) (j : ℕ) (here : p.cur
     -- the blocks are one more
     seen_more : present_blocks spot.item.file.profile.size b'.present.items b'.symbols.items
         ≡ seen ++ given_of found block ∷ []
-    seen_more =
-        (λ i. present_blocks spot.item.file.profile.size
+    seen_more = (λ i. present_blocks spot.item.file.profile.size
         ((grows.present_is ∙ ap (λ v. v.items ++ found ∷ []) present) i)
         ((grows.symbols_is ∙ ap (λ v. v.items ++ block) symbols) i))
         ∙ present_more spot.item.file.profile.size p.blocks.present.items p.blocks.symbols.items block found
@@ -158,8 +157,7 @@ module _ (p : Progress) (W : IsProgress p) (spot : Spot) (j : ℕ) (here : p.cur
           there = there;
           others = others;
           called = subst (λ (k : ℕ). Fetches k spot.item.file.id spot.stripe before (given_of found block)
-              after)
-              size called;
+              after) size called;
         };
         new_is = (λ i. record (scrub_view p) {
           todo = todo i;

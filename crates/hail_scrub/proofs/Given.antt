@@ -14,8 +14,7 @@ flat_map-below f g a (suc n) same =
 front_is : (xs : List ℕ) (f : ℕ → ℕ) (a n : ℕ) → a + n ≤ length xs →
     ((j : ℕ) → j < a + n → f j ≡ get_or xs j 0) → take n (drop a xs) ≡ map f (range_with_len a n)
 front_is xs f a zero within same = refl
-front_is xs f a (suc n) within same =
-    ap (take (suc n)) (drop_more xs a 0 (omega (arith, within)))
+front_is xs f a (suc n) within same = ap (take (suc n)) (drop_more xs a 0 (omega (arith, within)))
     ∙ (λ i. (sym (same a (omega arith))) i
     ∷ front_is xs f (a + 1) n (omega (arith, within)) (λ j l. same j (omega (arith, l))) i)
 

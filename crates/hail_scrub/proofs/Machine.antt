@@ -170,8 +170,7 @@ module _ (v : ScrubView) (ps : List Provider) (w : State) (m : Scrub) (stands : 
           (column_of_symbols (object_is o x one i) rows j t))
 
       stores_are : (rows : List ℕ) → scrub_stores w m o t rows ≡ stores_in v.providers x t seen rows
-      stores_are rows =
-          flat_map-below (λ j. if off_by w m o t rows j == 0 then [] else Store j o t ∷ [])
+      stores_are rows = flat_map-below (λ j. if off_by w m o t rows j == 0 then [] else Store j o t ∷ [])
           (λ j. if off_in x t seen rows j == 0 then [] else Store j x.id t ∷ []) 0 (setup_in w).n
           (λ k l i. if off_is rows k (omega (arith, l)) i == 0 then [] else Store k ((sym one.id_is) i) t ∷
           [])
@@ -330,8 +329,7 @@ module _ (v : ScrubView) (ps : List Provider) (w : State) (m : Scrub) (stands : 
           (fails j o t rest new qs todo acts.1)
       by_action (Store j o t) rest (turn.Done answer.Memory) todo acts =
           finds_none j o t rest new qs todo acts
-      by_action End rest (turn.Done (answer.Scrubbed stripes symbols blocks)) todo acts =
-          subst (λ (l : List Provider). MakesScrubStep w m
-          (turn.Done (answer.Scrubbed stripes symbols blocks)) new l) (sym acts.3)
-          (ends rest new stripes symbols blocks todo acts.0 acts.1 acts.2)
+      by_action End rest (turn.Done (answer.Scrubbed stripes symbols blocks)) todo acts = subst
+          (λ (l : List Provider). MakesScrubStep w m (turn.Done (answer.Scrubbed stripes symbols blocks)) new
+          l) (sym acts.3) (ends rest new stripes symbols blocks todo acts.0 acts.1 acts.2)
       by_action a rest t todo acts = absurd acts

@@ -1,5 +1,5 @@
 -- An opening of a scrub.
-use Rattle.hail_scrub.proofs.Words.{◌≡◌, ℕ, ◌+◌, ◌*◌, ◌<◌, ◌≤◌, ◌==◌, ◌^◌, Bool, true, false, List, [], ◌∷◌, ◌++◌, length, map, Vec, Global, Some, refl, ap, sym, subst, ◌∙◌, arith, slice_get_within, slice_get, get_or, slice_index, with_item, if◌then◌else◌, All, flat_map, get-set_same, Object, SeenBlock, GivesSymbols, LosesRow, present_blocks, length-present_blocks, Provider, Action, Store, Work, bench_object, turned, bench_kind, file_kind, blocks_in, Bench, Blocks, Spot, Cursor, Progress, ScrubView, most_steps, store_of, stores_from, past_stripe, todo_at, item_object, rows_of, fetched_at, size_in, phase_at, scrub_view, IsItem, IsSpot, IsCursor, TakesIn, IsProgress, off_in, stores_in, MakesNext}
+use Rattle.hail_scrub.proofs.Words.{◌≡◌, ℕ, ◌+◌, ◌*◌, ◌<◌, ◌≤◌, ◌==◌, ◌^◌, Bool, true, false, List, [], ◌∷◌, ◌++◌, length, map, Vec, Global, Some, refl, ap, sym, subst, ◌∙◌, arith, slice_get_within, slice_get, get_or, slice_index, with_item, if◌then◌else◌, All, flat_map, get-set_same, Object, SeenBlock, GivesSymbols, LosesRow, present_blocks, length-present_blocks, Provider, Action, Store, Work, bench_object, turned, bench_kind, file_kind, blocks_in, Bench, Blocks, Spot, Cursor, Progress, ScrubView, most_steps, store_of, stores_from, past_stripe, todo_at, item_object, rows_of, fetched_at, size_in, phase_at, scrub_view, IsItem, IsSpot, IsCursor, TakesOpening, IsProgress, off_in, stores_in, MakesNext}
 use Rattle.std.proofs.Common.{vec_capacity}
 use Rattle.column_codec.specs.declared.codec.Codec.{Codec}
 use Rattle.hail_scrub.specs.declared.cursor.Cursor.TheVariants as cursor
@@ -15,8 +15,7 @@ use Rattle.hail_scrub.proofs.Placed.{kinds_stay, turned_is, item_is, one_is, ben
 stores_are : (n : ℕ) (x : Object) (t : ℕ) (seen : List SeenBlock) (rows off : List ℕ) →
     ((j : ℕ) → j < n → slice_index off j ≡ off_in x t seen rows j) →
     stores_from n 0 off x.id t ≡ stores_in n x t seen rows
-stores_are n x t seen rows off is =
-    ap (flat_map (store_of off x.id t)) (numbers_all n)
+stores_are n x t seen rows off is = ap (flat_map (store_of off x.id t)) (numbers_all n)
     ∙ flat_map-below (store_of off x.id t)
     (λ j. if off_in x t seen rows j == 0 then [] else Store j x.id t ∷ []) 0 n
     (λ k l i. if is k (omega (arith, l)) i == 0 then [] else Store k x.id t ∷ [])
@@ -154,7 +153,7 @@ module _ (p : Progress) (W : IsProgress p) (spot : Spot) (here : p.cursor ≡ cu
       module _ (off : List ℕ)
           (found : IsSurveyed (turned b0 spot.item.file.id) spot.stripe (blocks_in b) b1.rows.items off)
           (q : Progress)
-          (T : TakesIn (record p { blocks = b; benches = bs; codec = cd }) spot off q) where
+          (T : TakesOpening (record p { blocks = b; benches = bs; codec = cd }) spot off q) where
         abbrev after : Progress
         after = record p {
           blocks = q.blocks;
@@ -188,10 +187,8 @@ module _ (p : Progress) (W : IsProgress p) (spot : Spot) (here : p.cursor ≡ cu
           symbols = ap length T.emptied.symbols
               ∙ (let e : 0 ≡ 0 * size_in q.cursor = omega arith in e)
               ∙ ap (λ (k : ℕ). k * size_in q.cursor) (sym T.at.fresh);
-          room_present = omega
-              (arith, W.room_present, T.emptied.present_room, ap vec_capacity present);
-          room_symbols = omega
-              (arith, W.room_symbols, T.emptied.symbols_room, ap vec_capacity symbols);
+          room_present = omega (arith, W.room_present, T.emptied.present_room, ap vec_capacity present);
+          room_symbols = omega (arith, W.room_symbols, T.emptied.symbols_room, ap vec_capacity symbols);
           left = left_after ∙ ap (most_steps p.providers) (sym T.at.todo_is);
           long_symbols = T.found.long_symbols ∙ W.long_symbols;
           long_blocks = T.found.long_blocks ∙ W.long_blocks;
@@ -209,8 +206,7 @@ module _ (p : Progress) (W : IsProgress p) (spot : Spot) (here : p.cursor ≡ cu
         abbrev x : Object
         x = item_object p.master.0 spot.item
 
-        off_are : (j : ℕ) → j < p.providers →
-            slice_index off j ≡ off_in x spot.stripe seen b1.rows.items j
+        off_are : (j : ℕ) → j < p.providers → slice_index off j ≡ off_in x spot.stripe seen b1.rows.items j
         off_are j below =
             let n : (turned b0 spot.item.file.id).shape.n ≡ p.providers =
             ap (λ (o : Object). o.shape.n) serves ∙ (item_is p W spot open_spot).providers in
@@ -235,9 +231,8 @@ module _ (p : Progress) (W : IsProgress p) (spot : Spot) (here : p.cursor ≡ cu
                       p.blocks.symbols.items ∙ present_is;
                   rows = b1.rows.items;
                   gives = subst (λ (o : Object). GivesSymbols o spot.stripe seen b1.rows.items)
-                      (turned_is b0 p.master.0 spot.item serves)
-                      (subst (λ (l : List SeenBlock). GivesSymbols (turned b0 spot.item.file.id) spot.stripe l
-                      b1.rows.items) seen_is found.gives);
+                      (turned_is b0 p.master.0 spot.item serves) (subst (λ (l : List SeenBlock). GivesSymbols
+                      (turned b0 spot.item.file.id) spot.stripe l b1.rows.items) seen_is found.gives);
                   todo_is = T.at.todo_is
                       ∙ ap (λ (l : List Action). l ++ past_stripe p.providers p.items.items spot)
                       (stores_are p.providers x spot.stripe seen b1.rows.items off off_are);

@@ -33,9 +33,8 @@ cursor_ends n items off (cursor.Opening spot) =
       Work spot.item.file.id spot.stripe ∷ ends.0,
       ap (λ (l : List Action). Work spot.item.file.id spot.stripe ∷ l) ends.1,
     )
-cursor_ends n items off (cursor.Storing spot j) =
-    behind_ends (stores_from n j off spot.item.file.id spot.stripe) (past_stripe n items spot)
-    (beyond_ends n items spot)
+cursor_ends n items off (cursor.Storing spot j) = behind_ends
+    (stores_from n j off spot.item.file.id spot.stripe) (past_stripe n items spot) (beyond_ends n items spot)
 cursor_ends n items off cursor.Ending = inr ([], refl)
 cursor_ends n items off cursor.Over = inl refl
 
@@ -49,8 +48,7 @@ first_ends (a ∷ rest) = is_end a
 
 some_on : (a : Action) (rest front : List Action) → is_end a ≡ false → a ∷ rest ≡ front ++ End ∷ [] →
     0 < length rest
-some_on a rest [] other is = absurd
-    (let e : is_end a ≡ true = ap first_ends is in
+some_on a rest [] other is = absurd (let e : is_end a ≡ true = ap first_ends is in
     let f : true ≡ false = sym e ∙ other in cc)
 some_on a rest (x ∷ front) other is =
     let e : length rest ≡ length (front ++ End ∷ []) = ap (λ (l : List Action). length (drop 1 l)) is in
@@ -72,9 +70,8 @@ pub over_is : (old : ScrubView) (ps : List Provider) (t : ScrubTurn) (new : Scru
     Ends old.todo → MakesNext old ps t new qs → IsOver t new
 over_is old ps turn.More new qs ends step = by_action step.action step.rest step.todo_is step.acts
   where
-    by_action : (a : Action) (rest : List Action) → old.todo ≡ a ∷ rest → ComesTo old a rest ps turn.More new
-        qs →
-        0 < scrub_left new
+    by_action : (a : Action) (rest : List Action) → old.todo ≡ a ∷ rest →
+        ComesTo old a rest ps turn.More new qs → 0 < scrub_left new
     by_action (Fetch j o t) rest todo acts =
         let e : length new.todo ≡ length rest = ap (λ (v : ScrubView). length v.todo) acts.new_is in
         left_some new (length rest) (some_behind old.todo rest (Fetch j o t) ends refl todo)

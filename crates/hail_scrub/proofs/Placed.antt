@@ -17,9 +17,8 @@ map_set_same {Y = Y} f (x ∷ xs) (suc k) b c there same =
     ap (λ (l : List Y). f x ∷ l) (map_set_same f xs k b c there same)
 
 -- another bench of the same kind leaves the kinds
-pub kinds_stay : (bs : List Bench) (k : ℕ) (b c : Bench) → slice_get bs k ≡ Some b → bench_kind c ≡
-    bench_kind b →
-    map bench_kind (slice_set bs k c) ≡ map bench_kind bs
+pub kinds_stay : (bs : List Bench) (k : ℕ) (b c : Bench) → slice_get bs k ≡ Some b →
+    bench_kind c ≡ bench_kind b → map bench_kind (slice_set bs k c) ≡ map bench_kind bs
 kinds_stay bs k b c there same = map_set_same bench_kind bs k b c there same
 
 -- a bench that serves a file, turned to its number, is one of its object
@@ -93,11 +92,9 @@ phase_behind p spot cursor.Over rows behind none is = tt
 pub phase_amid : (p : Progress) (spot : Spot) (c : Cursor) → IsAmid spot c →
     phase_at p c ≡ views.Fetched spot.item.file.id spot.stripe
     (present_blocks spot.item.file.profile.size p.blocks.present.items p.blocks.symbols.items)
-phase_amid p spot (cursor.Fetching other j) amid =
-    ap (λ (s : Spot). views.Fetched s.item.file.id s.stripe
+phase_amid p spot (cursor.Fetching other j) amid = ap (λ (s : Spot). views.Fetched s.item.file.id s.stripe
     (present_blocks s.item.file.profile.size p.blocks.present.items p.blocks.symbols.items)) amid
-phase_amid p spot (cursor.Opening other) amid =
-    ap (λ (s : Spot). views.Fetched s.item.file.id s.stripe
+phase_amid p spot (cursor.Opening other) amid = ap (λ (s : Spot). views.Fetched s.item.file.id s.stripe
     (present_blocks s.item.file.profile.size p.blocks.present.items p.blocks.symbols.items)) amid
 phase_amid p spot (cursor.Storing other j) amid = absurd amid
 phase_amid p spot cursor.Ending amid = absurd amid

@@ -21,15 +21,13 @@ fetches_here n j o t l = ap (map (λ k. Fetch k o t)) (numbers_here j n l)
 -- the stores from a provider on whose block is off start with that provider's
 pub stores_take : (n j : ℕ) (off : List ℕ) (o t : ℕ) → j < n → (slice_index off j == 0) ≡ false →
     stores_from n j off o t ≡ Store j o t ∷ stores_from n (j + 1) off o t
-stores_take n j off o t l is =
-    ap (flat_map (store_of off o t)) (numbers_here j n l)
+stores_take n j off o t l is = ap (flat_map (store_of off o t)) (numbers_here j n l)
     ∙ ap (λ (b : Bool). (if b then [] else Store j o t ∷ []) ++ stores_from n (j + 1) off o t) is
 
 -- those from a provider on whose block is its own are those from the next one on
 pub stores_skip : (n j : ℕ) (off : List ℕ) (o t : ℕ) → j < n → (slice_index off j == 0) ≡ true →
     stores_from n j off o t ≡ stores_from n (j + 1) off o t
-stores_skip n j off o t l is =
-    ap (flat_map (store_of off o t)) (numbers_here j n l)
+stores_skip n j off o t l is = ap (flat_map (store_of off o t)) (numbers_here j n l)
     ∙ ap (λ (b : Bool). (if b then [] else Store j o t ∷ []) ++ stores_from n (j + 1) off o t) is
 
 stripes_here : (n o a b : ℕ) → a < b → stripes_from n o a b ≡ opening_of n o a ++ stripes_from n o (a + 1) b
@@ -42,8 +40,7 @@ stripes_none n o a b l = ap (flat_map (opening_of n o)) (numbers_none a b l)
 -- the actions of a stripe, and what is behind
 joined : (n o t : ℕ) (more rest : List Action) →
     (opening_of n o t ++ more) ++ rest ≡ fetches_from n 0 o t ++ (Work o t ∷ (more ++ rest))
-joined n o t more rest =
-    append_assoc (opening_of n o t) more rest
+joined n o t more rest = append_assoc (opening_of n o t) more rest
     ∙ append_assoc (map (λ k. Fetch k o t) (upto n)) (Work o t ∷ []) (more ++ rest)
     ∙ ap (λ (ks : List ℕ). map (λ k. Fetch k o t) ks ++ (Work o t ∷ (more ++ rest))) (sym (numbers_all n))
 
@@ -83,8 +80,7 @@ stripe_here n items off spot within = sym (
 -- behind the last stripe of a file
 pub stripes_over : (n : ℕ) (items : List Item) (spot : Spot) → spot.item.stripes ≤ spot.stripe + 1 →
     items_on n (drop (spot.place + 1) items) ≡ past_stripe n items spot
-stripes_over n items spot over =
-    ap (λ (l : List Action). l ++ items_on n (drop (spot.place + 1) items))
+stripes_over n items spot over = ap (λ (l : List Action). l ++ items_on n (drop (spot.place + 1) items))
     (sym (stripes_none n spot.item.file.id (spot.stripe + 1) spot.item.stripes over))
 
 -- ---- items

@@ -153,10 +153,7 @@ module _ (p : Progress) (W : IsProgress p) (spot : Spot) (j : ℕ) (here : p.cur
                   (column_of_symbols o b0.rows.items j spot.stripe) before after')
                   (turned_is b0 p.master.0 spot.item serves) called;
             };
-            new_is = (λ i. record (scrub_view p) {
-              todo = at.todo_is i;
-              at = phase_at after c;
-            });
+            new_is = (λ i. record (scrub_view p) { todo = at.todo_is i; at = phase_at after c });
             behind = phase_behind after spot c b0.rows.items behind none_present
                 (ap rows_of (get-set_same p.benches.items spot.item.bench b1
                 (slice_get_within p.benches.items spot.item.bench b0 there))
@@ -182,9 +179,8 @@ module _ (p : Progress) (W : IsProgress p) (spot : Spot) (j : ℕ) (here : p.cur
 
     -- or found no memory
     pub store_finds_none : (new : ScrubView) (ps qs : List Provider) (before after : Provider) →
-        new.todo ≡ [] → slice_get ps j ≡ Some before → qs ≡ slice_set ps j after → FindsNoMemory before
-        after →
-        MakesNext (scrub_view p) ps (turn.Done answer.Memory) new qs
+        new.todo ≡ [] → slice_get ps j ≡ Some before → qs ≡ slice_set ps j after →
+        FindsNoMemory before after → MakesNext (scrub_view p) ps (turn.Done answer.Memory) new qs
     store_finds_none new ps qs before after over at_j others called = record {
       action = Store j spot.item.file.id spot.stripe;
       rest = rest;

@@ -43,7 +43,7 @@ pub use Rattle.stripe_bench.specs.Gifts.{fetched_gifts}
 pub use Rattle.stripe_bench.specs.declared.blocks.Blocks.{Blocks}
 pub use Rattle.hail_scrub.specs.Begins.{AreApart, AreFilesOf, HaveOneCount, held, IsFileOf, IsNewScrub}
 pub use Rattle.hail_scrub.specs.Begun.{AreItems, file_actions, file_providers, IsFileAmong}
-pub use Rattle.hail_scrub.specs.Progress.{bench_rows, CanRun, CursorIsAt, fetched_at, IsAmid, IsAtFirst, IsCursor, IsItem, IsProgress, IsSpot, item_object, phase_at, rows_of, scrub_view, size_in, StoresOnlyAt, TakesIn}
+pub use Rattle.hail_scrub.specs.Progress.{bench_rows, CanRun, CursorIsAt, fetched_at, IsAmid, IsAtFirst, IsCursor, IsItem, IsProgress, IsSpot, item_object, phase_at, rows_of, scrub_view, size_in, StoresOnlyAt, TakesOpening}
 pub use Rattle.hail_scrub.specs.Stands.{IsOver, IsStripeInWork, MakesScrubStep, scrub_answer, ScrubIs, ScrubStands}
 pub use Rattle.hail_scrub.specs.Steps.{CallsAt, ComesTo, FetchesOne, GoesPast, IsOne, LosesOne, MakesNext, off_in, OpensOne, stores_in, StoresOne}
 pub use Rattle.hail_scrub.specs.Todo.{fetches_from, item_actions, items_on, numbers_between, opening_of, past_stripe, store_of, stores_from, stripes_from, todo_at}

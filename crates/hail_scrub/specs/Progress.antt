@@ -15,11 +15,11 @@
 --   IsAtFirst c                         == a cursor is at the first fetch of a stripe, or at the end
 --   HasAdded old off new                == what was found, with a stripe more whose blocks are off by so many
 --                                          symbols
---   TakesIn old spot off new            == the opening of a stripe was taken in
+--   TakesOpening old spot off new       == the opening of a stripe was taken in
 --   IsProgress p                        == what its parts owe each other
 use Rattle.std.specs.Prelude.{◌≡◌, ℕ, ◌+◌, ◌++◌, ◌*◌, ◌==◌, ◌<◌, ◌≤◌, ◌^◌, All, false, List, [], length, map, Option, None, Some, slice_get, slice_index, vec_capacity, if◌then◌else◌}
 use Rattle.column_defs.specs.Objects.{Object}
-use Rattle.record_defs.specs.Records.{most_files, largest_file}
+use Rattle.record_defs.specs.Records.{most_files}
 use Rattle.column_codec.specs.PresentBlocks.{present_blocks}
 use Rattle.file_layout.specs.Files.{shaped_object}
 use Rattle.machine_defs.specs.Actions.{Action}
@@ -89,7 +89,7 @@ pub record IsItem (n : ℕ) (master : List ℕ) (kinds : List Object) (item : It
   pub providers : item.file.shape.n ≡ n
   pub some_providers : 0 < n
   pub some : 0 < item.stripes
-  pub few : item.stripes ≤ largest_file
+  pub few : item.stripes ≤ item.file.length
   pub bench : slice_get kinds item.bench ≡ Some (file_kind master item.file)
 
 -- a stripe of one of the files
@@ -143,7 +143,7 @@ pub record HasAdded (old : Found) (off : List ℕ) (new : Found) : Type 0 where
   pub long_blocks : length new.blocks ≡ length old.blocks
 
 -- the opening of a stripe was taken in, whose blocks are off by so many symbols
-pub record TakesIn (old : Progress) (spot : Spot) (off : List ℕ) (new : Progress) : Type 0 where
+pub record TakesOpening (old : Progress) (spot : Spot) (off : List ℕ) (new : Progress) : Type 0 where
   -- it is at the stores that are due, or behind the stripe
   pub at : CursorIsAt old.providers old.items.items off new.cursor
       (stores_from old.providers 0 off spot.item.file.id spot.stripe

@@ -7,7 +7,7 @@ ghost use Rattle.hail_scrub.specs.declared.cursor.Cursor.TheVariants as cursor;
 ghost use Rattle.hail_scrub.specs.declared.turn.ScrubTurn.TheVariants as turn;
 ghost use Rattle.hail_scrub.specs.Views.{scrub_left, next_to_do, called_by};
 ghost use Rattle.stripe_bench.specs.Calls.{CallsOnly};
-ghost use Rattle.hail_scrub.specs.Progress.{scrub_view, CanRun, IsSpot, HasAdded, TakesIn, IsProgress};
+ghost use Rattle.hail_scrub.specs.Progress.{scrub_view, CanRun, IsSpot, HasAdded, TakesOpening, IsProgress};
 ghost use Rattle.hail_scrub.specs.Steps.{MakesNext};
 
 use crate::compare::{count_off, survey};
@@ -108,7 +108,7 @@ impl Progress {
         requires blocks { (j : ℕ) → slice_index self.old.found.blocks j ≤ 2 ^ 50 }
         requires left { self.old.providers + 1 ≤ self.old.left }
         requires most { self.old.left ≤ 2 ^ 50 }
-        ensures { TakesIn self.old spot off self.new }
+        ensures { TakesOpening self.old spot off self.new }
     {
         self.blocks.clear();
         self.off = off;

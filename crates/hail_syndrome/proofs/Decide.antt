@@ -34,8 +34,7 @@ module _ (points values : List ℕ) (even : length points ≡ length values) (ap
   -- the key equation, of the polynomial as it is loaded
   equation : (x : ℕ) → nim_mul (value (power m) x) (value (interpolate points values) x) ≡
       nim_add (nim_mul (value S x) (value (vanish points) x)) (value (tail points values even apart m) x)
-  equation x =
-      key_equation points values even apart m x ∙
+  equation x = key_equation points values even apart m x ∙
       ap (λ t. nim_add (nim_mul t (value (vanish points) x)) (value (tail points values even apart m) x))
       (sym (value-trim nim nim_laws (reverse (syndromes_of points values (length points - keep))) x))
 
@@ -47,8 +46,7 @@ module _ (points values : List ℕ) (even : length points ≡ length values) (ap
     enough,
     even,
     factor_short nim nim_laws nim_endless m (m - fix) S r f few (omega arith) row,
-    many_sound nim nim_laws f points apart
-        (factor_some nim nim_laws nim_endless m (m - fix) S r f few
+    many_sound nim nim_laws f points apart (factor_some nim nim_laws nim_endless m (m - fix) S r f few
         (omega arith) row combination.multiple combination.values),
   )
 
@@ -75,20 +73,17 @@ module _ (points values : List ℕ) (even : length points ≡ length values) (ap
 
   -- what decodes the values takes those at the chosen places
   takes_chosen : (p : List ℕ) → Decodes nim points values keep fix p → TakesSymbols p chosen taken
-  takes_chosen p is =
-      Takes-front nim nim_laws f p (sound_points nim f points) (sound_values nim f points values) keep
-      (takes_sound nim nim_laws f p points values even
-      (takes_where nim nim_laws nim_endless m (m - fix) S r f few
-      (omega arith) row combination.multiple combination.values points values
-      (tail points values even apart m) even apart (omega (arith, length-tail points values even apart m))
-      equation keep fix (omega (arith, some))
+  takes_chosen p is = Takes-front nim nim_laws f p (sound_points nim f points)
+      (sound_values nim f points values) keep (takes_sound nim nim_laws f p points values even
+      (takes_where nim nim_laws nim_endless m (m - fix) S r f few (omega arith) row combination.multiple
+      combination.values points values (tail points values even apart m) even apart
+      (omega (arith, length-tail points values even apart m)) equation keep fix (omega (arith, some))
       (omega (arith, enough, even)) (omega (arith, enough, even)) (omega (arith, enough, even)) p is))
 
   module _ (q : List ℕ) (made : q ≡ trim (interpolate chosen taken)) where
     -- so it is the polynomial through these
     is_made : (p : List ℕ) → Decodes nim points values keep fix p → q ≡ trim p
-    is_made p is =
-        made ∙ one_takes nim nim_laws chosen taken (interpolate chosen taken) p apart_chosen
+    is_made p is = made ∙ one_takes nim nim_laws chosen taken (interpolate chosen taken) p apart_chosen
         (omega (arith, length-interpolate nim nim_laws chosen taken even_chosen))
         (interpolate_takes nim nim_laws chosen taken nim_laws.one_not_zero even_chosen apart_chosen)
         (omega (arith, is.short, length-chosen)) (takes_chosen p is)
@@ -96,14 +91,13 @@ module _ (points values : List ℕ) (even : length points ≡ length values) (ap
     -- where it agrees too seldom
     pub too_few : matches q points values + fix < length points → NoneDecodes points values keep fix
     too_few h = record {
-      none = λ p is.
-          omega (
-            arith,
-            h,
-            is.near,
-            agree_same nim p q points (map Some values)
-                (λ x. sym (value-trim nim nim_laws p x) ∙ ap (λ u. value u x) (sym (is_made p is))),
-          );
+      none = λ p is. omega (
+        arith,
+        h,
+        is.near,
+        agree_same nim p q points (map Some values)
+            (λ x. sym (value-trim nim nim_laws p x) ∙ ap (λ u. value u x) (sym (is_made p is))),
+      );
     }
 
     -- where it agrees often enough

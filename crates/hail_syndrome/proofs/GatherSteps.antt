@@ -57,16 +57,14 @@ module _ (f : List ℕ) where
 
   -- one item more in a buffer
   one_more : (buffer rest whole total : List ℕ) (count a : ℕ) → count < length buffer → rest ≡ a ∷ whole →
-      take count buffer ++ rest ≡ total →
-      take (count + 1) (set buffer count a) ++ whole ≡ total
+      take count buffer ++ rest ≡ total → take (count + 1) (set buffer count a) ++ whole ≡ total
   one_more buffer rest whole total count a lt is sum =
       ap (λ t. t ++ whole) (take_more_set buffer count a lt) ∙ append_assoc (take count buffer) (a ∷ []) whole
       ∙ ap (λ t. take count buffer ++ t) (sym is) ∙ sum
 
   -- a point that is kept
   pub point_kept : (xs buffer total : List ℕ) (k count x : ℕ) → k < length xs → count < length buffer →
-      x ≡ get_or xs k 0 → value f x ≢ 0 →
-      take count buffer ++ sound_points nim f (drop k xs) ≡ total →
+      x ≡ get_or xs k 0 → value f x ≢ 0 → take count buffer ++ sound_points nim f (drop k xs) ≡ total →
       take (count + 1) (set buffer count x) ++ sound_points nim f (drop (k + 1) xs) ≡ total
   point_kept xs buffer total k count x h lt read some sum =
       one_more buffer (sound_points nim f (drop k xs)) (sound_points nim f (drop (k + 1) xs)) total count x lt
@@ -90,12 +88,10 @@ module _ (f : List ℕ) where
 
   -- its value
   pub value_passed : (xs ys start total : List ℕ) (k x : ℕ) → k < length xs → length xs ≡ length ys →
-      x ≡ get_or xs k 0 → value f x ≡ 0 →
-      start ++ sound_values nim f (drop k xs) (drop k ys) ≡ total →
+      x ≡ get_or xs k 0 → value f x ≡ 0 → start ++ sound_values nim f (drop k xs) (drop k ys) ≡ total →
       start ++ sound_values nim f (drop (k + 1) xs) (drop (k + 1) ys) ≡ total
-  value_passed xs ys start total k x h even read none sum =
-      ap (λ t. start ++ t) (rw add-one
-      (sym (values-zero xs ys k h (omega arith) (ap (value f) (sym read) ∙ none)))) ∙ sum
+  value_passed xs ys start total k x h even read none sum = ap (λ t. start ++ t)
+      (rw add-one (sym (values-zero xs ys k h (omega arith) (ap (value f) (sym read) ∙ none)))) ∙ sum
 
   points-past : (xs : List ℕ) → xs ≡ [] → sound_points nim f xs ≡ []
   unfolding sound_points
@@ -115,6 +111,5 @@ module _ (f : List ℕ) where
   -- after all values
   pub values_end : (xs ys start total : List ℕ) (k : ℕ) → length xs ≤ k →
       start ++ sound_values nim f (drop k xs) (drop k ys) ≡ total → start ≡ total
-  values_end xs ys start total k h sum =
-      sym (append-none start (sound_values nim f (drop k xs) (drop k ys))
+  values_end xs ys start total k h sum = sym (append-none start (sound_values nim f (drop k xs) (drop k ys))
       (values-past (drop k xs) (drop k ys) (drop_all k xs h))) ∙ sum

@@ -30,8 +30,7 @@ weighted-zero (x ∷ xs) (y ∷ ys) e = cc (one_mul nim_ring y, weighted-zero xs
 one_part : (x p h u w y : ℕ) → nim_mul (nim_add x p) h ≡ 1 →
     nim_add (nim_mul x (nim_mul (nim_mul h u) (nim_mul w y)))
     (nim_mul (nim_mul h u) (nim_mul (nim_mul p w) y)) ≡ nim_mul (nim_mul u w) y
-one_part x p h u w y e =
-    solve nim_ring (x ∷ p ∷ h ∷ u ∷ w ∷ y ∷ [])
+one_part x p h u w y e = solve nim_ring (x ∷ p ∷ h ∷ u ∷ w ∷ y ∷ [])
     ((v 0 ⊡ ((v 2 ⊡ v 3) ⊡ (v 4 ⊡ v 5))) ⊞ ((v 2 ⊡ v 3) ⊡ ((v 1 ⊡ v 4) ⊡ v 5)))
     (((v 0 ⊞ v 1) ⊡ v 2) ⊡ ((v 3 ⊡ v 4) ⊡ v 5)) refl ∙
     cc (e, one_mul nim_ring (nim_mul (nim_mul u w) y))
@@ -57,9 +56,8 @@ module _ (xs ys : List ℕ) (even : length xs ≡ length ys) (apart : Apart xs) 
   unfolding dot weighted nim_pow
   parts m x [] vs out = cc (nim_ring.mul_zero x, nim_ring.add_zero 0)
   parts m x (p ∷ ps) [] out = cc (nim_ring.mul_zero x, nim_ring.add_zero 0)
-  parts m x (p ∷ ps) (y ∷ vs) out =
-      solve nim_ring (x ∷ a ∷ A ∷ b ∷ B ∷ []) ((v 0 ⊡ (v 1 ⊞ v 2)) ⊞ (v 3 ⊞ v 4))
-      (((v 0 ⊡ v 1) ⊞ v 3) ⊞ ((v 0 ⊡ v 2) ⊞ v 4)) refl ∙
+  parts m x (p ∷ ps) (y ∷ vs) out = solve nim_ring (x ∷ a ∷ A ∷ b ∷ B ∷ [])
+      ((v 0 ⊡ (v 1 ⊞ v 2)) ⊞ (v 3 ⊞ v 4)) (((v 0 ⊡ v 1) ⊞ v 3) ⊞ ((v 0 ⊡ v 2) ⊞ v 4)) refl ∙
       cc (
         one_part x p (nim_inv (nim_add x p)) (multiplier p xs) (nim_pow p m) y
             (nim_mul_inv (nim_add x p) (gap_not_zero x p out.0)),
@@ -92,8 +90,7 @@ module _ (xs ys : List ℕ) (even : length xs ≡ length ys) (apart : Apart xs) 
     where
       here : u ≡ x → nim_add (nim_mul x (value (tail m) x)) (value (tail (suc m)) x)
           ≡ nim_mul (value (vanish xs) x) s
-      here same =
-          ap (λ t. nim_add (nim_mul t (value (tail m) t)) (value (tail (suc m)) t)) (sym same) ∙
+      here same = ap (λ t. nim_add (nim_mul t (value (tail m) t)) (value (tail (suc m)) t)) (sym same) ∙
           cc (
             t0.0,
             t1.0,
@@ -127,12 +124,10 @@ module _ (xs ys : List ℕ) (even : length xs ≡ length ys) (apart : Apart xs) 
           nim_add (nim_mul x (value (tail m) x)) (value (tail (suc m)) x)
           ≡ nim_mul (value (vanish xs) x) (syndrome xs ys m)
       go (inr h) = h
-      go (inl out) =
-          cc (
-            value-interpolate xs (weighted m xs ys) x (sym (length-weighted m xs ys even)) apart out,
-            value-interpolate xs (weighted (suc m) xs ys) x
-                (sym (length-weighted (suc m) xs ys even)) apart out,
-          ) ∙
+      go (inl out) = cc (
+        value-interpolate xs (weighted m xs ys) x (sym (length-weighted m xs ys even)) apart out,
+        value-interpolate xs (weighted (suc m) xs ys) x (sym (length-weighted (suc m) xs ys even)) apart out,
+      ) ∙
           solve nim_ring (x ∷ value (vanish xs) x ∷ dot (map (part xs x) xs) (weighted m xs ys) ∷ dot
           (map (part xs x) xs) (weighted (suc m) xs ys) ∷ [])
           ((v 0 ⊡ (v 1 ⊡ v 2)) ⊞ (v 1 ⊡ v 3)) (v 1 ⊡ ((v 0 ⊡ v 2) ⊞ v 3)) refl ∙
@@ -140,8 +135,7 @@ module _ (xs ys : List ℕ) (even : length xs ≡ length ys) (apart : Apart xs) 
 
   -- one syndrome more
   pub syndromes_more : (m : ℕ) → syndromes_of xs ys (suc m) ≡ syndromes_of xs ys m ++ syndrome xs ys m ∷ []
-  syndromes_more m =
-      ap (λ n. map (syndrome xs ys) (range_with_len 0 n)) (sym (add-one m))
+  syndromes_more m = ap (λ n. map (syndrome xs ys) (range_with_len 0 n)) (sym (add-one m))
       ∙ map-range_with_len_more (syndrome xs ys) 0 m m (zero-add m)
 
   -- it comes first in their polynomial
@@ -155,14 +149,12 @@ module _ (xs ys : List ℕ) (even : length xs ≡ length ys) (apart : Apart xs) 
       nim_mul (value (power m) x) (value (interpolate xs ys) x) ≡
       nim_add (nim_mul (value (reverse (syndromes_of xs ys m)) x) (value (vanish xs) x)) (value (tail m) x)
   unfolding value_over
-  key_equation zero x =
-      ap (λ t. nim_mul (nim_add 1 (nim_mul x 0)) (value (interpolate xs t) x))
+  key_equation zero x = ap (λ t. nim_mul (nim_add 1 (nim_mul x 0)) (value (interpolate xs t) x))
       (sym (weighted-zero xs ys even)) ∙
       solve nim_ring (x ∷ value (tail 0) x ∷ value (vanish xs) x ∷ []) ((i ⊞ (v 0 ⊡ o)) ⊡ v 1)
       ((o ⊡ v 2) ⊞ v 1) refl
-  key_equation (suc m) x =
-      solve nim_ring (x ∷ value (power m) x ∷ value (interpolate xs ys) x ∷ []) ((o ⊞ (v 0 ⊡ v 1)) ⊡ v 2)
-      (v 0 ⊡ (v 1 ⊡ v 2)) refl ∙
+  key_equation (suc m) x = solve nim_ring (x ∷ value (power m) x ∷ value (interpolate xs ys) x ∷ [])
+      ((o ⊞ (v 0 ⊡ v 1)) ⊡ v 2) (v 0 ⊡ (v 1 ⊡ v 2)) refl ∙
       ap (nim_mul x) (key_equation m x) ∙
       solve nim_ring env (v 0 ⊡ ((v 1 ⊡ v 2) ⊞ v 3)) (((v 0 ⊡ v 1) ⊡ v 2) ⊞ (((v 0 ⊡ v 3) ⊞ v 4) ⊞ v 4)) refl
       ∙

@@ -47,11 +47,9 @@ module _ {A : Type 0} (F : FieldOf A) (laws : IsField F) (endless : IsEndless A)
       (row : FirstRow F below (power_over F m) [] S (𝟙 ∷ []) r f) where
     -- it is a key row
     key : IsKeyRow F laws (replicate m 𝟘) (replicate m (value F S 𝟘)) (vanish F (replicate m 𝟘)) below r f
-    key =
-        key_row F laws (replicate m 𝟘) (replicate m (value F S 𝟘)) (vanish F (replicate m 𝟘))
+    key = key_row F laws (replicate m 𝟘) (replicate m (value F S 𝟘)) (vanish F (replicate m 𝟘))
         (subst (λ (w : List A). FirstRow F below w [] S (𝟙 ∷ []) r f) (sym (vanish-zeros F laws m)) row)
-        (begins m S few)
-        (omega (arith, length-vanish F laws (replicate m 𝟘), length-replicate m 𝟘))
+        (begins m S few) (omega (arith, length-vanish F laws (replicate m 𝟘), length-replicate m 𝟘))
 
     -- its remainder is short
     rest_short : length r ≤ below
@@ -70,8 +68,7 @@ module _ {A : Type 0} (F : FieldOf A) (laws : IsField F) (endless : IsEndless A)
           ∙ ap (λ (p : List A). value F p 𝟙) (sym (vanish-zeros F laws m)) ∙ nothing 𝟙)
         where
           multiple : (x : A) → value F r x ≡ value F (power_over F m) x ⊗ value F g x
-          multiple x =
-              combination x ∙
+          multiple x = combination x ∙
               cc (
                 value-zero F laws f x z,
                 zero_mul laws.ring (value F S x),
@@ -87,8 +84,7 @@ module _ {A : Type 0} (F : FieldOf A) (laws : IsField F) (endless : IsEndless A)
           rest_none x = multiple x ∙ cc (none x, laws.ring.mul_zero (value F (power_over F m) x))
 
           nothing : (x : A) → value F (vanish F (replicate m 𝟘)) x ≡ 𝟘
-          nothing x =
-              sym (key.crossed.2 x) ∙
+          nothing x = sym (key.crossed.2 x) ∙
               cc (
                 value-zero F laws f x z,
                 rest_none x,
@@ -128,13 +124,12 @@ module _ {A : Type 0} (F : FieldOf A) (laws : IsField F) (endless : IsEndless A)
         )
 
         value-w : (x : A) → value F w x ≡ value F (power_over F m) x ⊗ value F Q x
-        value-w x =
-            cc (
-              value-plus F laws (times F r V) (times F f T) x,
-              value-times F laws r V x,
-              value-times F laws f T x,
-              combination x,
-            ) ∙
+        value-w x = cc (
+          value-plus F laws (times F r V) (times F f T) x,
+          value-times F laws r V x,
+          value-times F laws f T x,
+          combination x,
+        ) ∙
             solve laws.ring env (((v 0 ⊡ v 1) ⊞ (v 2 ⊡ v 3)) ⊡ v 4 ⊞ (v 0 ⊡ v 5))
             ((v 0 ⊡ ((v 1 ⊡ v 4) ⊞ v 5)) ⊞ (v 2 ⊡ (v 3 ⊡ v 4))) refl ∙
             ap (λ t. (value F f x ⊗ t) ⊕ (value F g x ⊗ (value F (power_over F m) x ⊗ value F V x)))
@@ -148,15 +143,14 @@ module _ {A : Type 0} (F : FieldOf A) (laws : IsField F) (endless : IsEndless A)
                 (power_over F m) x ∷ value F V x ∷ value F T x ∷ value F I x ∷ []
 
         length-w : length w ≤ m + n
-        length-w =
-            omega (
-              arith,
-              length-plus F laws (times F r V) (times F f T),
-              length-times F laws r V (length xs) (omega (arith, length-vanish F laws xs)),
-              length-times F laws f T (length xs - 1) (omega arith),
-              rest_short,
-              factor_short,
-            )
+        length-w = omega (
+          arith,
+          length-plus F laws (times F r V) (times F f T),
+          length-times F laws r V (length xs) (omega (arith, length-vanish F laws xs)),
+          length-times F laws f T (length xs - 1) (omega arith),
+          rest_short,
+          factor_short,
+        )
 
         value-short : (x : A) → value F (take n Q) x ≡ value F Q x
         value-short = short_factor F laws endless Q w m n value-w length-w
@@ -175,12 +169,10 @@ module _ {A : Type 0} (F : FieldOf A) (laws : IsField F) (endless : IsEndless A)
           -- the row is its cofactor times what decodes the values
           is_product : (x : A) → value F (take n Q) x ≡ value F f x ⊗ value F p x
           is_product x =
-              same_values F laws (take n Q) (times F f p)
-              (row_is_product F laws (take n Q) f p xs ys n (keep - 1) fix apart
-              (solves xs ys (interpolate_takes F laws xs ys laws.one_not_zero even apart)
-              (vanish_roots F laws xs))
-              (omega (arith, length-take n Q)) (omega (arith, factor_short)) (let a = is.short in omega arith)
-              (omega arith) (omega arith) is.near) x ∙
+              same_values F laws (take n Q) (times F f p) (row_is_product F laws (take n Q) f p xs ys n
+              (keep - 1) fix apart (solves xs ys (interpolate_takes F laws xs ys laws.one_not_zero even apart)
+              (vanish_roots F laws xs)) (omega (arith, length-take n Q)) (omega (arith, factor_short))
+              (let a = is.short in omega arith) (omega arith) (omega arith) is.near) x ∙
               value-times F laws f p x
 
           where_some : (us vs : List A) → Solves F (take n Q) f us vs → TakesWhere F f p us vs
@@ -189,10 +181,8 @@ module _ {A : Type 0} (F : FieldOf A) (laws : IsField F) (endless : IsEndless A)
           where_some (u ∷ us) (y ∷ vs) s = (here, where_some us vs s.1)
             where
               here : value F f u ≢ 𝟘 → value F p u ≡ y
-              here nonzero =
-                  sum_zero laws.ring (value F p u) y
-                  (factor_zero F laws (value F f u) (value F p u ⊕ y)
-                  (laws.ring.mul_add (value F f u) (value F p u) y
+              here nonzero = sum_zero laws.ring (value F p u) y (factor_zero F laws (value F f u)
+                  (value F p u ⊕ y) (laws.ring.mul_add (value F f u) (value F p u) y
                   ∙ cc (sym (is_product u), s.0, laws.ring.add_self (value F f u ⊗ y))) nonzero)
 
           -- so wherever the cofactor is not 0, it takes the value

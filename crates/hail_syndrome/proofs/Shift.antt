@@ -23,8 +23,7 @@ module _ {A : Type 0} (F : FieldOf A) (laws : IsField F) where
       value F (replicate m 𝟘 ++ q) x ≡ value F (power_over F m) x ⊗ value F q x
   unfolding value
   value-shift zero q x = solve laws.ring (value F q x ∷ x ∷ []) (v 0) ((i ⊞ (v 1 ⊡ o)) ⊡ v 0) refl
-  value-shift (suc m) q x =
-      ap (λ t. 𝟘 ⊕ (x ⊗ t)) (value-shift m q x) ∙
+  value-shift (suc m) q x = ap (λ t. 𝟘 ⊕ (x ⊗ t)) (value-shift m q x) ∙
       solve laws.ring (value F q x ∷ x ∷ value F (power_over F m) x ∷ []) (o ⊞ (v 1 ⊡ (v 2 ⊡ v 0)))
       ((o ⊞ (v 1 ⊡ v 2)) ⊡ v 0) refl
 
@@ -60,13 +59,12 @@ module _ {A : Type 0} (F : FieldOf A) (laws : IsField F) where
   unfolding value
   value-front_part [] zero x h = refl
   value-front_part [] (suc n) x h = refl
-  value-front_part (a ∷ q) zero x h =
-      cc (
-        h 0 (omega arith),
-        value-front_part q zero x (λ j le. h (suc j) (omega arith)),
-        laws.ring.mul_zero x,
-        laws.ring.add_zero 𝟘,
-      )
+  value-front_part (a ∷ q) zero x h = cc (
+    h 0 (omega arith),
+    value-front_part q zero x (λ j le. h (suc j) (omega arith)),
+    laws.ring.mul_zero x,
+    laws.ring.add_zero 𝟘,
+  )
   value-front_part (a ∷ q) (suc n) x h =
       ap (λ t. a ⊕ (x ⊗ t)) (value-front_part q n x (λ j le. h (suc j) (omega arith)))
 
@@ -81,7 +79,6 @@ module _ {A : Type 0} (F : FieldOf A) (laws : IsField F) where
         same = same_from_values F laws endless (replicate m 𝟘 ++ q) w (λ x. value-shift m q x ∙ sym (is x))
 
         past : (j : ℕ) → n ≤ j → get_or q j 𝟘 ≡ 𝟘
-        past j le =
-            sym (get_or-shift m q j) ∙ sym (get_or-trim F laws (replicate m 𝟘 ++ q) (m + j))
+        past j le = sym (get_or-shift m q j) ∙ sym (get_or-trim F laws (replicate m 𝟘 ++ q) (m + j))
             ∙ ap (λ p. get_or p (m + j) 𝟘) same ∙
             get_or-trim F laws w (m + j) ∙ get_or_past w (m + j) 𝟘 (omega arith)

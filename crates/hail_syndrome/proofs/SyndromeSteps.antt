@@ -10,17 +10,15 @@ power_start c x = sym (nim_ring.mul_one c)
 -- the next power
 pub power_more : (c x k : ℕ) → nim_mul (nim_mul c (nim_pow x k)) x ≡ nim_mul c (nim_pow x (k + 1))
 unfolding nim_pow
-power_more c x k =
-    solve nim_ring (c ∷ nim_pow x k ∷ x ∷ []) ((v 0 ⊡ v 1) ⊡ v 2) (v 0 ⊡ (v 2 ⊡ v 1)) refl
+power_more c x k = solve nim_ring (c ∷ nim_pow x k ∷ x ∷ []) ((v 0 ⊡ v 1) ⊡ v 2) (v 0 ⊡ (v 2 ⊡ v 1)) refl
     ∙ ap (λ n. nim_mul c (nim_pow x n)) (sym (add-one k))
 
 -- a summand more at a place
 pub place_more : (old out : List ℕ) (c x k a term : ℕ) → k < length out → a ≡ get_or out k 0 →
     term ≡ nim_mul c (nim_pow x k) →
     ((j : ℕ) → j < k → get_or out j 0 ≡ nim_add (get_or old j 0) (nim_mul c (nim_pow x j))) →
-    ((j : ℕ) → k ≤ j → get_or out j 0 ≡ get_or old j 0) →
-    (j : ℕ) → j < k + 1 → get_or (set out k (nim_add a term)) j 0
-    ≡ nim_add (get_or old j 0) (nim_mul c (nim_pow x j))
+    ((j : ℕ) → k ≤ j → get_or out j 0 ≡ get_or old j 0) → (j : ℕ) → j < k + 1 →
+    get_or (set out k (nim_add a term)) j 0 ≡ nim_add (get_or old j 0) (nim_mul c (nim_pow x j))
 place_more old out c x k a term lt read is done left j le = go (dec j k)
   where
     dec : (a b : ℕ) → (a ≡ b) ⊎ (a ≢ b)
@@ -81,8 +79,7 @@ syndromes_by_all ps vs out n long each =
 
 -- the law, of the syndromes in memory
 pub zero_law : (ps vs out : List ℕ) (keep m : ℕ) → Apart ps → length ps ≡ length vs → keep + m ≡ length vs →
-    out ≡ syndromes_of ps vs m →
-    Each (λ (s : ℕ). s ≡ 0) out ↔ AreValues ps vs keep
+    out ≡ syndromes_of ps vs m → Each (λ (s : ℕ). s ≡ 0) out ↔ AreValues ps vs keep
 zero_law ps vs out keep m apart even room is = (
   (λ h. values_from_zero ps vs even apart keep m (room ∙ sym even)
       (subst (λ (o : List ℕ). Each (λ (s : ℕ). s ≡ 0) o) is h)),

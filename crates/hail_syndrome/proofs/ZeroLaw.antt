@@ -78,8 +78,7 @@ module _ (xs ys : List ℕ) (even : length xs ≡ length ys) (apart : Apart xs) 
       where
         multiple : (x : ℕ) → value (tail xs ys even apart m) x
             ≡ nim_mul (value (power m) x) (value (interpolate xs ys) x)
-        multiple x =
-            sym (key_equation xs ys even apart m x ∙
+        multiple x = sym (key_equation xs ys even apart m x ∙
             cc (
               value-zero nim nim_laws (reverse (syndromes_of xs ys m)) x (reversed_zero m h),
               nim_ring.mul_comm 0 (value (vanish xs) x),
@@ -89,9 +88,8 @@ module _ (xs ys : List ℕ) (even : length xs ≡ length ys) (apart : Apart xs) 
             ))
 
         short : (x : ℕ) → value (take keep (interpolate xs ys)) x ≡ value (interpolate xs ys) x
-        short = short_factor nim nim_laws nim_endless (interpolate xs ys)
-            (tail xs ys even apart m) m keep multiple
-            (omega (arith, length-tail xs ys even apart m))
+        short = short_factor nim nim_laws nim_endless (interpolate xs ys) (tail xs ys even apart m) m keep
+            multiple (omega (arith, length-tail xs ys even apart m))
 
         front : (us vs : List ℕ) → TakesSymbols (interpolate xs ys) us vs →
             TakesSymbols (take keep (interpolate xs ys)) us vs
@@ -102,8 +100,7 @@ module _ (xs ys : List ℕ) (even : length xs ≡ length ys) (apart : Apart xs) 
     -- where the values are those of a polynomial of low degree, all are 0
     pub zero_from_values : AreValues xs ys keep → Each IsZero (syndromes_of xs ys m)
     zero_from_values is =
-        zero_reversed m
-        (cancel nim nim_laws nim_endless (vanish xs) (reverse (syndromes_of xs ys m)) some
+        zero_reversed m (cancel nim nim_laws nim_endless (vanish xs) (reverse (syndromes_of xs ys m)) some
         (λ x. nim_ring.mul_comm (value (vanish xs) x) (value (reverse (syndromes_of xs ys m)) x)
         ∙ sym (product x) ∙ value-zero nim nim_laws w x w_zero))
       where
@@ -121,16 +118,14 @@ module _ (xs ys : List ℕ) (even : length xs ≡ length ys) (apart : Apart xs) 
             last_not_zero monic.0 (subst (λ (p : List ℕ). Each IsZero p) monic.1 z)
 
         same : (x : ℕ) → value (interpolate xs ys) x ≡ value is.polynomial x
-        same x =
-            same_values nim nim_laws (interpolate xs ys) is.polynomial
+        same x = same_values nim nim_laws (interpolate xs ys) is.polynomial
             (plus_zero nim nim_laws xs (interpolate xs ys) is.polynomial apart
             (meet_values (interpolate xs ys) is.polynomial xs ys interpolate_takes_all is.values_are)
             (omega (arith, length-interpolate nim nim_laws xs ys even)) (omega (arith, is.degree))) x
 
         product : (x : ℕ) → value w x ≡ nim_mul (value (reverse (syndromes_of xs ys m)) x)
             (value (vanish xs) x)
-        product x =
-            value-plus nim nim_laws (replicate m 0 ++ is.polynomial) (tail xs ys even apart m) x ∙
+        product x = value-plus nim nim_laws (replicate m 0 ++ is.polynomial) (tail xs ys even apart m) x ∙
             ap (λ t. nim_add t (value (tail xs ys even apart m) x))
             (value-shift nim nim_laws m is.polynomial x ∙ ap (nim_mul (value (power m) x)) (sym (same x))
             ∙ key_equation xs ys even apart m x) ∙
@@ -149,12 +144,11 @@ module _ (xs ys : List ℕ) (even : length xs ≡ length ys) (apart : Apart xs) 
         )
 
         w_zero : Each IsZero w
-        w_zero = zero_from_roots nim nim_laws xs w apart (at_roots xs (vanish_roots nim nim_laws xs))
-            (omega (
-              arith,
-              length-plus nim nim_laws (replicate m 0 ++ is.polynomial) (tail xs ys even apart m),
-              length-append (replicate m 0) is.polynomial,
-              length-replicate {A = ℕ} m 0,
-              length-tail xs ys even apart m,
-              is.degree,
-            ))
+        w_zero = zero_from_roots nim nim_laws xs w apart (at_roots xs (vanish_roots nim nim_laws xs)) (omega (
+          arith,
+          length-plus nim nim_laws (replicate m 0 ++ is.polynomial) (tail xs ys even apart m),
+          length-append (replicate m 0) is.polynomial,
+          length-replicate {A = ℕ} m 0,
+          length-tail xs ys even apart m,
+          is.degree,
+        ))

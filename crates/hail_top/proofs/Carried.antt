@@ -96,8 +96,7 @@ trial-goes-on number start before old new end (inr (is, at, R)) = record {
 
 trial-keeps : (number : ℕ) (old new : Seen) (end : Ending) → AnswersTrial number old new end →
     KeepsTheHeadline (forms.Trial number) old new end
-trial-keeps number old new end (answers.too_few few same undone) =
-    inl (22, 0, other 22 (omega arith), undone)
+trial-keeps number old new end (answers.too_few few same undone) = inl (22, 0, other 22 (omega arith), undone)
 trial-keeps number old new end (answers.no_memory same undone) = inl (70, 0, other 70 (omega arith), undone)
 trial-keeps number old new end (answers.done enough same does) = inr (record {
   commands = trial_commands number;

@@ -31,8 +31,7 @@ form-once words (forms.Trial number) (forms.Trial other) one two =
 
 -- the form that was read was answered, so the one that the words spell was
 pub answered-form : (words : List (String Global)) (form other : Form) (old new : Seen) (end : Ending) →
-    IsFormOf words form → AnswersForm form old new end
-    → IsFormOf words other → AnswersForm other old new end
+    IsFormOf words form → AnswersForm form old new end → IsFormOf words other → AnswersForm other old new end
 answered-form words form other old new end found a is =
     subst (λ (f : Form). AnswersForm f old new end) (form-once words form other found is) a
 

@@ -12,8 +12,7 @@ use Rattle.hail_replay.proofs.Loops.{continued-devices}
 pub init-on : (s : SetupData) (d e : Devices) (end : Ending) (result : Result Unit InitFault) →
     IsSpelled (Init s) → ((w : State) (moment : ℕ) → MayInit w d.holds → AreDevices d w →
     MakesInit w moment s result e) → TellsInit result end → InitGoesOn s d e end
-init-on s d e end result spelled makes told start ms tells L =
-    (let w : State = now start ms in
+init-on s d e end result spelled makes told start ms tells L = (let w : State = now start ms in
     let called : IsRun 8 start (called_behind start ms) = (tt, refl, L.run) in
     let M = makes (continued w) (length (called_behind start ms)) (record {
       sound = run-sound 8 start (called_behind start ms) (omega arith, omega arith) L.starts called;
@@ -36,9 +35,8 @@ line-ends line status sink (inr (inr w)) = inr (inr w.0)
 pub ready-tells : (result : Result Unit InitFault) (end : Ending) (status : ℕ) (line : List ℕ)
     (sink : Sinking) (done : Unit {0}) → result ≡ Ok done → end ≡ ending_with status 0 →
     WritesLine line status sink → TellsInit result end
-ready-tells result end status line sink done is ended writes =
-    subst (λ r. TellsInit r end) (sym is) (subst (λ e. TellsInit (Ok done) e) (sym ended)
-    (line-ends line status sink writes))
+ready-tells result end status line sink done is ended writes = subst (λ r. TellsInit r end) (sym is)
+    (subst (λ e. TellsInit (Ok done) e) (sym ended) (line-ends line status sink writes))
 
 -- and of one that is refused
 pub refused-tells : (result : Result Unit InitFault) (why : InitFault) (end : Ending) → result ≡ Err why →

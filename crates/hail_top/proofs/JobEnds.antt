@@ -28,12 +28,10 @@ ended-told subject tolerance kind own area records old new end ended written cou
     }
   where
     told_here : TellsAnswer subject (machine_answer ended.answer) end.status end.at (sinking old new)
-    told_here =
-        subst (λ (n : ℕ). TellsAnswer subject (machine_answer ended.answer) end.status end.at
+    told_here = subst (λ (n : ℕ). TellsAnswer subject (machine_answer ended.answer) end.status end.at
         (record { old = old.sink; new = new.sink; before = n; now = new.sink_faults })) (sym is_count)
         (subst (λ (w : Option (List ℕ)). TellsAnswer subject (machine_answer ended.answer) end.status end.at
-        (record { old = w; new = new.sink; before = count; now = new.sink_faults }))
-        (sym is_written) told)
+        (record { old = w; new = new.sink; before = count; now = new.sink_faults })) (sym is_written) told)
 
 -- devices that are as they were lost no fault
 pub untouched : (old new : Seen) (d : Devices) → IsSeenBefore old d → new.disk_faults ≡ d.faults →
@@ -69,9 +67,8 @@ refused-over kind own area records old new d end why before was_synced over is d
     same_providers = providers ∙ sym before.providers
 
     by_cause : IsRefusedOver area records kind own why → AnswersJob kind own area records old new end
-    by_cause (inl memory) = jobs.no_memory synced_here
-        (refused-told 70 0 old new end
-        (is ∙ ap (λ (w : BeginFault). ending_with (status_of (refusal_of w)) 0) memory) kept
-        same_providers silent (λ e. faults ∙ before.faults))
+    by_cause (inl memory) = jobs.no_memory synced_here (refused-told 70 0 old new end
+        (is ∙ ap (λ (w : BeginFault). ending_with (status_of (refusal_of w)) 0) memory) kept same_providers
+        silent (λ e. faults ∙ before.faults))
     by_cause (inr some) = jobs.refused (refusal_of why) some synced_here
         (refused-told (status_of (refusal_of why)) 0 old new end is kept same_providers silent (λ e. faults ∙ before.faults))

@@ -9,22 +9,19 @@ use Rattle.hail_top.proofs.Refused.{refused-told}
 
 -- how the command ends whose pack's answer was told
 pack-ends : (answer : Answer) (old new : Seen) (end : Ending) →
-    TellsPack answer end.status end.at (sinking old new) →
-    EndsByAnswer (pack_text answer) answer old new end
+    TellsPack answer end.status end.at (sinking old new) → EndsByAnswer (pack_text answer) answer old new end
 pack-ends (Packed before after) old new end told = record { written = told.0; place = told.1 }
 pack-ends Put old new end told = fault-ends Put (pack_text Put) old new end told.0 told.1
 pack-ends (Got bytes) old new end told =
     fault-ends (Got bytes) (pack_text (Got bytes)) old new end told.0 told.1
 pack-ends Dropped old new end told = fault-ends Dropped (pack_text Dropped) old new end told.0 told.1
-pack-ends (Audited number undecided counts) old new end told =
-    fault-ends (Audited number undecided counts) (pack_text (Audited number undecided counts)) old new end
-    told.0 told.1
+pack-ends (Audited number undecided counts) old new end told = fault-ends (Audited number undecided counts)
+    (pack_text (Audited number undecided counts)) old new end told.0 told.1
 pack-ends (Repaired number) old new end told =
     fault-ends (Repaired number) (pack_text (Repaired number)) old new end told.0 told.1
 pack-ends Upgraded old new end told = fault-ends Upgraded (pack_text Upgraded) old new end told.0 told.1
-pack-ends (Scrubbed stripes symbols blocks) old new end told =
-    fault-ends (Scrubbed stripes symbols blocks) (pack_text (Scrubbed stripes symbols blocks)) old new end
-    told.0 told.1
+pack-ends (Scrubbed stripes symbols blocks) old new end told = fault-ends (Scrubbed stripes symbols blocks)
+    (pack_text (Scrubbed stripes symbols blocks)) old new end told.0 told.1
 pack-ends (Lost stripe row) old new end told =
     fault-ends (Lost stripe row) (pack_text (Lost stripe row)) old new end told.0 told.1
 pack-ends (ProviderFault j) old new end told =
@@ -41,9 +38,8 @@ pub pack-told : (records : List Record) (old new : Seen) (end : Ending) (answer 
     end.heard ≡ [] → PacksOver old new end
 pack-told records old new end answer written count opened is_written is_count over told silent = record {
   answers = packs.ended records (pack_answer answer) opened over.unrefused silent over.runs over.left
-      (pack-ends (pack_answer answer) old new end
-      (subst (λ (k : ℕ). TellsPack (pack_answer answer) end.status end.at
-      (record { old = old.sink; new = new.sink; before = k; now = new.sink_faults })) (sym is_count)
+      (pack-ends (pack_answer answer) old new end (subst (λ (k : ℕ). TellsPack (pack_answer answer) end.status
+      end.at (record { old = old.sink; new = new.sink; before = k; now = new.sink_faults })) (sym is_count)
       (subst (λ (w : Option (List ℕ)). TellsPack (pack_answer answer) end.status end.at
       (record { old = w; new = new.sink; before = count; now = new.sink_faults })) (sym is_written) told)));
   counts = over.counts;

@@ -23,9 +23,11 @@ pub unknown-put : (name : List ℕ) (own : Option ℕ) (records : List Record) (
 unknown-put name own records old new d end count left was_count was_left is_count is_left unknown opened before was_synced is disk faults providers silent =
     (let synced_here : IsSynced old new = disk ∙ was_synced in
     record {
-      answers = bad_profile records opened unknown synced_here
-          (is_left ∙ sym was_left, is_count ∙ sym was_count)
-          (refused-told 20 0 old new end is (resynced old.disk new.disk synced_here)
+      answers = bad_profile records opened unknown synced_here (
+        is_left ∙ sym was_left,
+        is_count ∙
+            sym was_count,
+      ) (refused-told 20 0 old new end is (resynced old.disk new.disk synced_here)
           (providers ∙ sym before.providers) silent (λ e. faults ∙ before.faults));
       counts = untouched old new d before faults providers;
     })
@@ -72,9 +74,8 @@ unbegun-put name own records old new d end why count left is_count is_left opene
     by_cause : (why : Unbegun) → end ≡ unbegun_ending why →
         (why ≡ unbegun.SourceFault → Rose count new.source_faults) →
         IsUnbegunOver opened.area records name own why old.source new.source → AnswersPut name own old new end
-    by_cause unbegun.SourceFault is rose taken =
-        source_fault records opened known (subst (λ (n : ℕ). Rose n new.source_faults) (sym is_count) (rose refl))
-        synced_here taken
+    by_cause unbegun.SourceFault is rose taken = source_fault records opened known
+        (subst (λ (n : ℕ). Rose n new.source_faults) (sym is_count) (rose refl)) synced_here taken
         (refused-told 14 0 old new end is kept same_providers silent (λ e. faults ∙ before.faults))
     by_cause unbegun.Memory is rose taken =
         no_memory taken (refused-told 70 0 old new end is kept same_providers silent (λ e. faults ∙ before.faults))
@@ -116,8 +117,7 @@ stopped-put : (name : List ℕ) (own : Option ℕ) (records : List Record) (old 
     PutsOver name own old new end
 stopped-put name own records old new end status stops opened known shows S is silent = record {
   answers = given_up records S.bytes opened known S.unrefused
-      (subst (λ (e : Ending). StopsReading (put_stripe records own) S.bytes old new e) (sym is)
-      (record {
+      (subst (λ (e : Ending). StopsReading (put_stripe records own) S.bytes old new e) (sym is) (record {
         read = S.read;
         are_bytes = S.reads.are_bytes;
         front = S.reads.front;
@@ -142,8 +142,7 @@ pub streamed-put : (name : List ℕ) (own : Option ℕ) (records : List Record) 
     (record { old = written; new = new.sink; before = count; now = new.sink_faults }) →
     PutsOver name own old new end
 streamed-put name own records old new end how written count is_written is_count opened known over told =
-    by_end how over
-    (subst (λ (n : ℕ). TellsStreamed name how end
+    by_end how over (subst (λ (n : ℕ). TellsStreamed name how end
     (record { old = old.sink; new = new.sink; before = n; now = new.sink_faults })) (sym is_count)
     (subst (λ (w : Option (List ℕ)). TellsStreamed name how end
     (record { old = w; new = new.sink; before = count; now = new.sink_faults })) (sym is_written) told))

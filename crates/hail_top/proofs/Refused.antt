@@ -5,9 +5,8 @@ use Rattle.hail_top.proofs.Words.{◌≡◌, ℕ, refl, sym, subst, Seen, Ending
 pub refused-told : (status at : ℕ) (old new : Seen) (end : Ending) → end ≡ ending_with status at →
     KeepsDisk old new → new.providers ≡ old.providers → new.sink ≡ old.sink →
     (status ≡ 70 → new.disk_faults ≡ old.disk_faults) → IsRefused status at old new end
-refused-told status at old new end is kept same silent no_fault =
-    subst (λ (e : Ending). IsRefused status at old new e) (sym is)
-    (record {
+refused-told status at old new end is kept same silent no_fault = subst
+    (λ (e : Ending). IsRefused status at old new e) (sym is) (record {
       status_is = refl;
       place = refl;
       heard = refl;

@@ -18,9 +18,8 @@ scrub-ends Put old new end told = fault-ends Put (scrub_text Put) old new end to
 scrub-ends (Got bytes) old new end told =
     fault-ends (Got bytes) (scrub_text (Got bytes)) old new end told.0 told.1
 scrub-ends Dropped old new end told = fault-ends Dropped (scrub_text Dropped) old new end told.0 told.1
-scrub-ends (Audited number undecided counts) old new end told =
-    fault-ends (Audited number undecided counts) (scrub_text (Audited number undecided counts)) old new end
-    told.0 told.1
+scrub-ends (Audited number undecided counts) old new end told = fault-ends (Audited number undecided counts)
+    (scrub_text (Audited number undecided counts)) old new end told.0 told.1
 scrub-ends (Repaired number) old new end told =
     fault-ends (Repaired number) (scrub_text (Repaired number)) old new end told.0 told.1
 scrub-ends Upgraded old new end told = fault-ends Upgraded (scrub_text Upgraded) old new end told.0 told.1
@@ -50,13 +49,11 @@ scrub-told records old new end answer n written count opened synced_here is_writ
     }
   where
     told_here : TellsScrub (scrub_answer (setup_in_effect records).n answer) end.status end.at (sinking old new)
-    told_here =
-        subst (λ (k : ℕ). TellsScrub (scrub_answer k answer) end.status end.at (sinking old new)) as_many
-        (subst (λ (k : ℕ). TellsScrub (scrub_answer n answer) end.status end.at
+    told_here = subst (λ (k : ℕ). TellsScrub (scrub_answer k answer) end.status end.at (sinking old new))
+        as_many (subst (λ (k : ℕ). TellsScrub (scrub_answer n answer) end.status end.at
         (record { old = old.sink; new = new.sink; before = k; now = new.sink_faults })) (sym is_count)
         (subst (λ (w : Option (List ℕ)). TellsScrub (scrub_answer n answer) end.status end.at
-        (record { old = w; new = new.sink; before = count; now = new.sink_faults }))
-        (sym is_written) told))
+        (record { old = w; new = new.sink; before = count; now = new.sink_faults })) (sym is_written) told))
 
 -- there was no memory for a scrub
 pub no-scrub : (records : List Record) (old new : Seen) (d : Devices) (end : Ending) → IsOpened old records →

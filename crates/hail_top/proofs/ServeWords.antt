@@ -58,10 +58,8 @@ serve-same = refl
 
 -- words with such a first word ask to serve nothing
 apart : (word : List ℕ) (words : List (String Global)) (number : ℕ) → first-word words ≡ word →
-    bytes_eq word (codes "serve") ≡ false
-    → IsServeForm words number → ⊥
-apart word words number first differs is =
-    (let meet = sym first ∙ serve-first words number is in
+    bytes_eq word (codes "serve") ≡ false → IsServeForm words number → ⊥
+apart word words number first differs is = (let meet = sym first ∙ serve-first words number is in
     false≢true (sym differs ∙ (ap (λ (w : List ℕ). bytes_eq w (codes "serve")) meet ∙ serve-same)))
 
 -- words that spell a command ask to serve nothing

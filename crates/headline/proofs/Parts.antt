@@ -53,10 +53,9 @@ headline limit start ms clean run = record {
   gets_are_right = first_half limit start ms clean run;
   calm_gets_end_well = λ tell calm scrubs found. second_half limit start ms clean tell run calm scrubs found;
   scrub_calm_gets_end_well = λ tell calm. half_by_scrubs limit start ms clean tell run calm;
-  scrubbed_providers_are_exact = λ tell calm later before is.
-      subst (λ l. IsExact start l (scrubbed start before)) (sym is)
-      (exact_by_scrubs limit start later before clean tell (subst (IsRun limit start) is run)
-      (subst (IsScrubCalm start) is calm));
+  scrubbed_providers_are_exact = λ tell calm later before is. subst
+      (λ l. IsExact start l (scrubbed start before)) (sym is) (exact_by_scrubs limit start later before clean
+      tell (subst (IsRun limit start) is run) (subst (IsScrubCalm start) is calm));
   acknowledged_files_survive = survive limit start clean ms run;
   one_put = λ begun other object g h. stored_once limit start ms clean run begun other object g h;
   one_audit = λ begun other number object round g h. asked_once limit start ms clean run begun other number

@@ -4,7 +4,7 @@
 --   plain u                   == the state with its journal for its history
 --   Carried u v Happened      == what happened in `plain u` and left v happens in u, and leaves a state that is
 --                                v but for its history
-use Rattle.job_laws.proofs.Words.{◌≡◌, ℕ, suc, ◌+◌, ◌==◌, Bool, true, false, cond, List, [], ◌∷◌, ◌++◌, length, Option, Some, None, refl, ap, sym, subst, ◌∙◌, ◌⊎◌, inl, inr, arith, is_some, slice_get, flat_map, option_map, cases_Bool, honest_answer, columns, column_of_symbols, Object, GivesSymbols, LosesRow, Sums, upto, Stores, Fetches, Asks, Provider, Record, Setup, AuditStart, AuditDone, next_audit, Area, AreAlike, Action, WriteBody, SyncBody, WriteGate, SyncGate, Store, Fetch, Ask, Work, Remove, End, actions_of, Scrubs, StepsScrub, StepsAlone, scrubbing, unalone, opened_scrub, found_more, differs, scrub_actions, new_scrub, number_alone, Answer, Put, Got, Dropped, Audited, Repaired, Upgraded, Scrubbed, Lost, ProviderFault, DiskFault, Memory, Moves, Writes, is_first_append, subject_drawn, bytes_drawn, audits_drawn, taken_out, begun_append, moved, doubted, done_append, barred, unappended, HasSums, asked_challenge, pinned_file, pins_by, due_number, due_flags, subject_at_begin, chosen, beginning, BeginsAt, pin_all, machine_pins, Step, BeginScrub, Outcome, Refused, More, Waiting, Begun, Ended, Closed, IsSpelledKind, block_given, blocks_given, symbols_given, file_given, pinned_profile, Entry, Kind, PutJob, GetJob, DropJob, AuditJob, RepairJob, UpgradeJob, aim_of, Pinned, Fetched, Answered, Worked, Job, job_of, advanced, advanced_with, Happens, MustReopen, NoSuchJob, first_refusal, Moment, now, profiled, object_of, setup_or_none, sight_of, aims_of, causes, reserved, StandsPlain, StandsWithDoubt, StandsSwitched, StandsForState, State, Append, Alone, Scrubbing, Packing, Scrub, setup_in, file_in, object_among, worked_object, going_on, ended, with_provider, journal_end, block_to_store, GotBytes, Ends, Acts, is_idle_drop, next_action, holder_of, ActsOrWaits, StepsOn, StepsJob, StepsMine, StepsOne, StepsOpen, Steps, PartRan, AreSteps, GoesOnTo, outside, SameOutside, RanAlone, Seen, AreHanded, IsOpenAtRest, IsSound, events-sound, MayName, walk-begin}
+use Rattle.job_laws.proofs.Words.{◌≡◌, ℕ, suc, ◌+◌, ◌==◌, Bool, true, false, cond, List, [], ◌∷◌, ◌++◌, length, Option, Some, None, refl, ap, sym, subst, ◌∙◌, ◌⊎◌, inl, inr, arith, is_some, slice_get, flat_map, cases_Bool, columns, column_of_symbols, Object, upto, Fetches, Provider, Record, Setup, AuditStart, next_audit, Area, AreAlike, Action, WriteBody, SyncBody, WriteGate, SyncGate, Store, Fetch, Ask, Work, Remove, End, actions_of, Scrubs, StepsScrub, StepsAlone, scrubbing, unalone, opened_scrub, found_more, differs, scrub_actions, new_scrub, number_alone, Answer, Put, Got, Dropped, Audited, Repaired, Upgraded, Scrubbed, Lost, ProviderFault, DiskFault, Memory, Moves, Writes, is_first_append, subject_drawn, bytes_drawn, audits_drawn, taken_out, begun_append, moved, doubted, done_append, barred, unappended, HasSums, pinned_file, pins_by, due_number, due_flags, subject_at_begin, chosen, beginning, BeginsAt, pin_all, machine_pins, Step, BeginScrub, Outcome, Refused, More, Waiting, Begun, Ended, Closed, IsSpelledKind, block_given, file_given, pinned_profile, Entry, Kind, PutJob, GetJob, DropJob, AuditJob, RepairJob, UpgradeJob, aim_of, Pinned, Fetched, Answered, Worked, Job, job_of, advanced, advanced_with, Happens, MustReopen, NoSuchJob, first_refusal, Moment, now, profiled, object_of, setup_or_none, sight_of, aims_of, causes, reserved, StandsPlain, StandsWithDoubt, StandsSwitched, StandsForState, State, Append, Alone, Scrubbing, Packing, Scrub, setup_in, file_in, object_among, worked_object, going_on, ended, with_provider, journal_end, block_to_store, GotBytes, Ends, Acts, is_idle_drop, next_action, holder_of, ActsOrWaits, StepsOn, StepsJob, StepsMine, StepsOne, StepsOpen, Steps, PartRan, AreSteps, GoesOnTo, RanAlone, Seen, AreHanded, IsOpenAtRest, IsSound, events-sound, MayName, walk-begin}
 use Rattle.std.specs.Prelude.{map, sum_by}
 use Rattle.device_defs.specs.Cells.{Cells}
 use Rattle.command_defs.specs.Scrubs.{RanScrub}
@@ -86,9 +86,8 @@ module _ (u : State) (E : AreAlike u.journal u.records) (none_packs : IsUnpackin
   writes job (GetJob name) entry h = absurd h
   writes job AuditJob entry h = elim (cases_Bool (is_first_append job)) [
     | inl t ↦ rw t (let g : entry ≡ AuditStart (next_audit u.journal) = rw t at h in cc)
-    | inr f ↦ rw f (let g : (sums : Sums) × HasSums (setup_in (plain u)) job sums
-        × (entry ≡ AuditDone job.subject sums.undecided sums.counts) = rw f at h in
-        (g.0, subst (λ s. HasSums s job g.0) (sym set_up) g.1, g.2))
+    | inr f ↦ rw f (let g = rw f at h in
+        (g.0, (rw (← set_up) at g.1), g.2))
   ]
   writes job kind entry h = h
 
@@ -128,9 +127,8 @@ module _ (u : State) (E : AreAlike u.journal u.records) (none_packs : IsUnpackin
   moves job SyncBody (Some a) More v (at, (faults, le, e)) =
       carry (record (moved (going_on u (advanced job)) a) { disk_faults = faults }) none_packs
       (at, (faults, le, refl)) e
-  moves job SyncBody (Some a) (Ended DiskFault) v (at, (faults, le, rose, e)) =
-      carry (record (barred (ended u job)) { disk_faults = faults }) none_packs (at, (faults, le, rose, refl))
-      e
+  moves job SyncBody (Some a) (Ended DiskFault) v (at, (faults, le, rose, e)) = carry
+      (record (barred (ended u job)) { disk_faults = faults }) none_packs (at, (faults, le, rose, refl)) e
   moves job WriteGate (Some a) More v (at, (faults, le, e)) =
       carry (record (doubted (moved (going_on u (advanced job)) a) a job) { disk_faults = faults }) none_packs
       (at, (faults, le, refl)) e
@@ -150,86 +148,33 @@ module _ (u : State) (E : AreAlike u.journal u.records) (none_packs : IsUnpackin
     });
     none_packs = none_packs;
   }
-  moves job SyncGate (Some a) (Ended DiskFault) v (at, (faults, le, rose, e)) =
-      carry (record (barred (ended u job)) { disk_faults = faults }) none_packs (at, (faults, le, rose, refl))
-      e
+  moves job SyncGate (Some a) (Ended DiskFault) v (at, (faults, le, rose, e)) = carry
+      (record (barred (ended u job)) { disk_faults = faults }) none_packs (at, (faults, le, rose, refl)) e
   moves job action flight outcome v h = absurd h
 
   -- ---- an action
 
   acts : (job : Job) (action : Action) (outcome : Outcome) (v : State) → Acts (plain u) job action outcome v →
       Carried v (Acts u job action outcome)
-  acts job (Store j object stripe) More v (p, call, e) = record {
-    new = record (going_on u (advanced job)) { providers = with_provider u.providers j p };
-    happens = (
-      p,
-      subst (λ b. Stores object stripe b (u.providers j) p) (sym (to_store job job.kind j object stripe)) call,
-      refl,
-    );
-    same = e;
-    none_packs = none_packs;
-  }
-  acts job (Store j object stripe) (Ended (ProviderFault k)) v (is, (p, call, e)) =
-      carry (record (ended u job) { providers = with_provider u.providers j p }) none_packs
-      (is, (p, call, refl)) e
+  acts job (Store j object stripe) More v (p, call, e) =
+      carry (record (going_on u (advanced job)) { providers = with_provider u.providers j p }) none_packs
+      (p, (rw (← (to_store job job.kind j object stripe)) at call), refl) e
+  acts job (Store j object stripe) (Ended (ProviderFault k)) v (is, (p, call, e)) = carry
+      (record (ended u job) { providers = with_provider u.providers j p }) none_packs (is, (p, call, refl)) e
   acts job (Store j object stripe) (Ended Memory) v (p, call, e) =
       carry (record (ended u job) { providers = with_provider u.providers j p }) none_packs (p, call, refl) e
-  acts job (Fetch j object stripe) More v (block, (p, call, e)) = record {
-    new = record (going_on u (advanced_with job (Fetched j object stripe block))) {
-      providers = with_provider u.providers j p;
-    };
-    happens = (
-      block,
-      (
-        p,
-        subst (λ (o : Object). Fetches o.profile.size object stripe (u.providers j) block p)
-            (sym (worked job object)) call,
-        refl,
-      ),
-    );
-    same = e;
-    none_packs = none_packs;
-  }
-  acts job (Ask j object round) More v (symbol, (p, call, e)) = record {
-    new = record (going_on u (advanced_with job (Answered j object round symbol))) {
-      providers = with_provider u.providers j p;
-    };
-    happens = (
-      symbol,
-      (
-        p,
-        subst (λ s. Asks (honest_answer (asked_challenge s job object round)) object (u.providers j) symbol p)
-            (sym set_up) call,
-        refl,
-      ),
-    );
-    same = e;
-    none_packs = none_packs;
-  }
-  acts job (Work object stripe) More v (symbols, gives, e) = record {
-    new = going_on u (advanced_with job (Worked object stripe symbols));
-    happens = (
-      symbols,
-      subst (λ (s : Setup). GivesSymbols
-          (object_of (profiled s (pinned_profile s.profile job.pinned object)) object) stripe
-          (blocks_given job.given s.n object stripe) symbols) (sym set_up) gives,
-      refl,
-    );
-    same = e;
-    none_packs = none_packs;
-  }
-  acts job (Work object stripe) (Ended (Lost s row)) v (is, loses, e) = record {
-    new = ended u job;
-    happens = (
-      is,
-      subst (λ (s : Setup). LosesRow
-          (object_of (profiled s (pinned_profile s.profile job.pinned object)) object) stripe
-          (blocks_given job.given s.n object stripe) row) (sym set_up) loses,
-      refl,
-    );
-    same = e;
-    none_packs = none_packs;
-  }
+  acts job (Fetch j object stripe) More v (block, (p, call, e)) = (let c = subst
+      (λ (o : Object). Fetches o.profile.size object stripe (u.providers j) block p) (sym (worked job object))
+      call in carry (record (going_on u (advanced_with job (Fetched j object stripe block)))
+      { providers = with_provider u.providers j p }) none_packs (block, (p, c, refl)) e)
+  acts job (Ask j object round) More v (symbol, (p, call, e)) = carry
+      (record (going_on u (advanced_with job (Answered j object round symbol)))
+      { providers = with_provider u.providers j p }) none_packs (symbol, (p, (rw (← set_up) at call), refl)) e
+  acts job (Work object stripe) More v (symbols, gives, e) =
+      carry (going_on u (advanced_with job (Worked object stripe symbols))) none_packs
+      (symbols, (rw (← set_up) at gives), refl) e
+  acts job (Work object stripe) (Ended (Lost s row)) v (is, loses, e) =
+      carry (ended u job) none_packs (is, (rw (← set_up) at loses), refl) e
   acts job (Remove j object) More v (p, call, e) =
       carry (record (going_on u (advanced job)) { providers = with_provider u.providers j p }) none_packs
       (p, call, refl) e
@@ -241,8 +186,7 @@ module _ (u : State) (E : AreAlike u.journal u.records) (none_packs : IsUnpackin
   or_waits : (job : Job) (action : Action) (holder : Option ℕ) (outcome : Outcome) (v : State) →
       ActsOrWaits (plain u) job action holder outcome v → Carried v (ActsOrWaits u job action holder outcome)
   or_waits job action None outcome v h = acts job action outcome v h
-  or_waits job action (Some holder) (Waiting k) v (is, e) =
-      record { new = u; happens = (is, refl); same = e; none_packs = none_packs }
+  or_waits job action (Some holder) (Waiting k) v (is, e) = carry u none_packs (is, refl) e
   or_waits job action (Some holder) outcome v h = absurd h
 
   on : (job : Job) (action : Option Action) (outcome : Outcome) (v : State) →
@@ -252,8 +196,7 @@ module _ (u : State) (E : AreAlike u.journal u.records) (none_packs : IsUnpackin
 
   of_job : (job : Option Job) (outcome : Outcome) (v : State) → StepsJob (plain u) job outcome v →
       Carried v (StepsJob u job outcome)
-  of_job None (Refused NoSuchJob) v e =
-      record { new = u; happens = refl; same = e; none_packs = none_packs }
+  of_job None (Refused NoSuchJob) v e = carry u none_packs refl e
   of_job None outcome v h = absurd h
   of_job (Some job) outcome v h =
       on job (next_action u job) outcome v (subst (λ a. StepsOn (plain u) job a outcome v) (sym (next job)) h)
@@ -281,59 +224,19 @@ module _ (u : State) (E : AreAlike u.journal u.records) (none_packs : IsUnpackin
 
   scrubs : (scrub : Scrub) (action : Action) (rest : List Action) (outcome : Outcome) (v : State) →
       Scrubs (plain u) scrub action rest outcome v → Carried v (Scrubs u scrub action rest outcome)
-  scrubs scrub (Fetch j object stripe) rest More v (block, (p, call, e)) = record {
-    new = record (scrubbing u
-        (record scrub { todo = rest; given = Fetched j object stripe block ∷ scrub.given })) {
-          providers = with_provider u.providers j p;
-        };
-    happens = (
-      block,
-      (
-        p,
-        subst (λ (o : Object). Fetches o.profile.size object stripe (u.providers j) block p)
-            (sym (among scrub.files object)) call,
-        refl,
-      ),
-    );
-    same = e;
-    none_packs = tt;
-  }
-  scrubs scrub (Work object stripe) rest More v (symbols, gives, e) = record {
-    new = scrubbing u (opened_scrub u scrub object stripe rest symbols);
-    happens = (
-      symbols,
-      subst (λ (s : Setup). GivesSymbols
-          (object_of (profiled s (pinned_profile s.profile scrub.files object)) object) stripe
-          (blocks_given scrub.given s.n object stripe) symbols) (sym set_up) gives,
-      refl,
-    );
-    same = cc (opens scrub object stripe rest symbols);
-    none_packs = tt;
-  }
-  scrubs scrub (Work object stripe) rest (Ended (Lost s row)) v (is, loses, e) = record {
-    new = unalone u;
-    happens = (
-      is,
-      subst (λ (s : Setup). LosesRow
-          (object_of (profiled s (pinned_profile s.profile scrub.files object)) object) stripe
-          (blocks_given scrub.given s.n object stripe) row) (sym set_up) loses,
-      refl,
-    );
-    same = e;
-    none_packs = tt;
-  }
-  scrubs scrub (Store j object stripe) rest More v (p, call, e) = record {
-    new = record (scrubbing u (record scrub { todo = rest })) { providers = with_provider u.providers j p };
-    happens = (
-      p,
-      subst (λ (o : Object). Stores object stripe
-          (column_of_symbols o (symbols_given scrub.given object stripe) j stripe) (u.providers j) p)
-          (sym (among scrub.files object)) call,
-      refl,
-    );
-    same = e;
-    none_packs = tt;
-  }
+  scrubs scrub (Fetch j object stripe) rest More v (block, (p, call, e)) =
+      (let c = subst (λ (o : Object). Fetches o.profile.size object stripe (u.providers j) block p)
+      (sym (among scrub.files object)) call in carry (record (scrubbing u (record scrub
+      { todo = rest; given = Fetched j object stripe block ∷ scrub.given }))
+      { providers = with_provider u.providers j p }) tt (block, (p, c, refl)) e)
+  scrubs scrub (Work object stripe) rest More v (symbols, gives, e) =
+      carry (scrubbing u (opened_scrub u scrub object stripe rest symbols)) tt
+      (symbols, (rw (← set_up) at gives), refl) (cc (opens scrub object stripe rest symbols))
+  scrubs scrub (Work object stripe) rest (Ended (Lost s row)) v (is, loses, e) =
+      carry (unalone u) tt (is, (rw (← set_up) at loses), refl) e
+  scrubs scrub (Store j object stripe) rest More v (p, call, e) =
+      carry (record (scrubbing u (record scrub { todo = rest })) { providers = with_provider u.providers j p }) tt
+      (p, (rw (← (among scrub.files object)) at call), refl) e
   scrubs scrub (Store j object stripe) rest (Ended (ProviderFault k)) v (is, (p, call, e)) =
       carry (record (unalone u) { providers = with_provider u.providers j p }) tt (is, (p, call, refl)) e
   scrubs scrub (Store j object stripe) rest (Ended Memory) v (p, call, e) =
@@ -376,15 +279,13 @@ module _ (u : State) (E : AreAlike u.journal u.records) (none_packs : IsUnpackin
 
   open_one : (number : ℕ) (is_barred : Bool) (outcome : Outcome) (v : State) →
       StepsOpen (plain u) number is_barred outcome v → Carried v (StepsOpen u number is_barred outcome)
-  open_one number true (Refused MustReopen) v e =
-      record { new = u; happens = refl; same = e; none_packs = none_packs }
+  open_one number true (Refused MustReopen) v e = carry u none_packs refl e
   open_one number true outcome v h = absurd h
   open_one number false outcome v h = one number u.alone outcome v none_packs h
 
   by_open : (number : ℕ) (is_open : Bool) (outcome : Outcome) (v : State) →
       Steps (plain u) number is_open outcome v → Carried v (Steps u number is_open outcome)
-  by_open number false Closed v e =
-      record { new = u; happens = refl; same = e; none_packs = none_packs }
+  by_open number false Closed v e = carry u none_packs refl e
   by_open number false outcome v h = absurd h
   by_open number true outcome v h = open_one number u.is_barred outcome v h
 
@@ -433,12 +334,7 @@ module _ (u : State) (E : AreAlike u.journal u.records) (none_packs : IsUnpackin
       BeginsAt 8 moment (plain u) kind own (Begun number) v → Carried v (BeginsAt 8 moment u kind own (Begun number))
   begins-carried moment number kind own v (opened, none, is, e) = record {
     new = record u { jobs = u.jobs ++ beginning u moment kind own ∷ []; next_job = u.next_job + 1 };
-    happens = (
-      opened,
-      ap (λ x. first_refusal (causes 8 x (aim_of kind) own)) (sym sights) ∙ none,
-      is,
-      refl,
-    );
+    happens = (opened, ap (λ x. first_refusal (causes 8 x (aim_of kind) own)) (sym sights) ∙ none, is, refl);
     same = e ∙ ap (λ j. record (plain u) { jobs = u.jobs ++ j ∷ []; next_job = u.next_job + 1 })
         (job-same moment kind own);
     none_packs = none_packs;
@@ -479,11 +375,9 @@ module _ (u : State) (S : IsSound 8 u) (none : IsUnpacking u.alone) (moment numb
   one-more : (x : Moment) (ms : List Moment) → AreSteps (plain u) moment number (x ∷ ms) →
       CarriedOn u moment number ms → CarriedOn u moment number (x ∷ ms)
   one-more x ms are C =
-      (let h : Happens 8 (moment + length C.steps) (plain (now u C.steps)) (Step number) More x.state =
-      subst (λ k. Happens 8 (moment + k) (plain (now u C.steps)) (Step number) More x.state) (sym C.long)
-      (subst (λ w. Happens 8 (moment + length ms) w (Step number) More x.state) C.same are.2) in
-      let g = carried (now u C.steps) C.sound.journal.alike C.none_packs (moment + length C.steps) number More
-      x.state h in
+      (let g = carried (now u C.steps) C.sound.journal.alike C.none_packs (moment + length C.steps) number
+      More x.state (subst (λ k. Happens 8 (moment + k) (plain (now u C.steps)) (Step number) More x.state)
+      (sym C.long) (subst (λ w. Happens 8 (moment + length ms) w (Step number) More x.state) C.same are.2)) in
       record {
         steps = record { event = Step number; outcome = More; state = g.new } ∷ C.steps;
         are_steps = (refl, refl, g.happens, C.are_steps);
@@ -502,21 +396,14 @@ module _ (u : State) (S : IsSound 8 u) (none : IsUnpacking u.alone) (moment numb
   -- so do all up to an end
   goes-carried : (answer : Answer) (heard : List Entry) (v : State) →
       GoesOnTo (plain u) moment number answer heard v → Carried v (GoesOnTo u moment number answer heard)
-  goes-carried answer heard v G =
-      (let C = steps-carried G.steps G.are_steps in
-      let h : Happens 8 (moment + length C.steps) (plain (now u C.steps)) (Step number) (Ended answer) v =
-      subst (λ k. Happens 8 (moment + k) (plain (now u C.steps)) (Step number) (Ended answer) v) (sym C.long)
-      (subst (λ w. Happens 8 (moment + length G.steps) w (Step number) (Ended answer) v) C.same G.ends) in
+  goes-carried answer heard v G = (let C = steps-carried G.steps G.are_steps in
       let g = carried (now u C.steps) C.sound.journal.alike C.none_packs (moment + length C.steps) number
-      (Ended answer) v h in
+      (Ended answer) v (subst (λ k. Happens 8 (moment + k) (plain (now u C.steps)) (Step number)
+      (Ended answer) v) (sym C.long)
+      (subst (λ w. Happens 8 (moment + length G.steps) w (Step number) (Ended answer) v) C.same G.ends)) in
       record {
         new = g.new;
-        happens = record {
-          steps = C.steps;
-          are_steps = C.are_steps;
-          ends = g.happens;
-          heard_is = cc;
-        };
+        happens = record { steps = C.steps; are_steps = C.are_steps; ends = g.happens; heard_is = cc };
         same = g.same;
         none_packs = g.none_packs;
       })
@@ -555,15 +442,14 @@ module _ (u : State) (O : IsOpenAtRest u 1) where
       (let b = begins-carried u sound.journal.alike quiet moment R.runs.job kind own R.runs.begun R.runs.begins in
       let W = walk-begin moment R.runs.job u b.new kind own named O spelled b.happens in
       let g = goes-carried b.new W.1.sound b.none_packs (moment + 1) R.runs.job W.0 answer heard R.last
-      (subst (λ w. GoesOnTo w (moment + 1) R.runs.job answer heard R.last) b.same R.runs.goes_on) in
+      (rw b.same at R.runs.goes_on) in
       record {
         last = g.new;
         runs = record { begun = b.new; job = R.runs.job; begins = b.happens; goes_on = g.happens };
-        images = images-plain new.disk g.new (subst (λ w. StandsForState new.disk w) g.same R.images);
+        images = images-plain new.disk g.new (rw g.same at R.images);
         faults_are = cc;
-        handed = handed-plain new.providers g.new (subst (λ w. AreHanded new.providers w) g.same R.handed);
-        outside_text = subst (λ (w : State). SameOutside area kind own answer records w.journal old.disk new.disk)
-            g.same R.outside_text;
+        handed = handed-plain new.providers g.new (rw g.same at R.handed);
+        outside_text = rw g.same at R.outside_text;
       })
 
   -- a part of a put
@@ -576,7 +462,7 @@ module _ (u : State) (O : IsOpenAtRest u 1) where
       let b = begins-carried u sound.journal.alike quiet moment R.runs.job kind own R.runs.begun R.runs.begins
       in let W = walk-begin moment R.runs.job u b.new kind own named O spelled b.happens in
       let C = steps-carried b.new W.1.sound b.none_packs (moment + 1) R.runs.job W.0 R.runs.steps
-      (subst (λ w. AreSteps w (moment + 1) R.runs.job R.runs.steps) b.same R.runs.are_steps) in
+      (rw b.same at R.runs.are_steps) in
       let e : R.last ≡ plain (now b.new C.steps) = cc in
       record {
         last = now b.new C.steps;
@@ -589,13 +475,10 @@ module _ (u : State) (O : IsOpenAtRest u 1) where
           made = C.long ∙ R.runs.made;
           last = refl;
         };
-        images = images-plain new.disk (now b.new C.steps)
-            (subst (λ w. StandsForState new.disk w) e R.images);
+        images = images-plain new.disk (now b.new C.steps) (rw e at R.images);
         faults_are = sym (ap (λ (w : State). w.disk_faults) e) ∙ R.faults_are;
-        handed = handed-plain new.providers (now b.new C.steps)
-            (subst (λ w. AreHanded new.providers w) e R.handed);
-        outside_text = subst (λ (w : State). option_map (outside area w.journal) new.disk
-            ≡ option_map (outside area w.journal) old.disk) e R.outside_text;
+        handed = handed-plain new.providers (now b.new C.steps) (rw e at R.handed);
+        outside_text = rw e at R.outside_text;
       })
 
   -- a scrub

@@ -52,8 +52,7 @@ asks-rounds n f (round ∷ more) = cc (asks-rounds n f more)
 
 -- the questions of files in this order
 abbrev pub questions_in : Setup → List File → List Question
-questions_in s fs = flat_map
-    (λ (f : File). map (λ round. record { file = f; round = round })
+questions_in s fs = flat_map (λ (f : File). map (λ round. record { file = f; round = round })
     (rounds_of (profiled s f.profile) f.size)) fs
 
 asks-files : (s : Setup) (w : State) (fs : List File) →
@@ -62,11 +61,9 @@ asks-files : (s : Setup) (w : State) (fs : List File) →
     (rounds_of (profiled s f.profile) (length f.bytes))) (map (pinned_file w) fs)
     ≡ asks_of s.n (questions_in s fs)
 asks-files s w [] h = refl
-asks-files s w (f ∷ fs) h =
-    (let one : flat_map (λ round. map (λ j. Ask j f.id round) (upto s.n)) (rounds_of (profiled s f.profile)
-    (length (w.bytes f.id))) ≡ asks_of s.n (map (λ round. record { file = f; round = round })
-    (rounds_of (profiled s f.profile) f.size)) =
-    cc (asks-rounds s.n f (rounds_of (profiled s f.profile) f.size)) in
+asks-files s w (f ∷ fs) h = (let one : flat_map (λ round. map (λ j. Ask j f.id round) (upto s.n)) _ ≡ asks_of
+    s.n (map (λ round. record { file = f; round = round }) (rounds_of (profiled s f.profile) f.size)) = cc
+    (asks-rounds s.n f (rounds_of (profiled s f.profile) f.size)) in
     (λ i. one i ++ asks-files s w fs h.1 i) ∙ sym (flat_map-append (asks_one s.n)
     (map (λ round. record { file = f; round = round }) (rounds_of (profiled s f.profile) f.size))
     (questions_in s fs)))
@@ -75,12 +72,10 @@ asks-files s w (f ∷ fs) h =
 pub asks-questions : (s : Setup) (w : State) (job : Job) (files : List File) → job.pinned ≡ pin_all w files →
     Each (λ (f : File). length (w.bytes f.id) ≡ f.size) files →
     ask_actions s job ≡ asks_of s.n (questions s files)
-asks-questions s w job files pinned h =
-    cc (
-      pinned-by_number w files,
-      asks-files s w (files_by_number files) (each-by_number (λ (f : File). length
-          (w.bytes f.id) ≡ f.size) files h),
-    )
+asks-questions s w job files pinned h = cc (
+  pinned-by_number w files,
+  asks-files s w (files_by_number files) (each-by_number _ files h),
+)
 
 -- ---- no two asks are the same
 
@@ -120,15 +115,8 @@ above-low : (s : Setup) (low : ℕ) (pinned : List Pinned) → AreAscending low 
     (flat_map (λ (f : Pinned). flat_map (λ round. map (λ j. Ask j f.id round) (upto s.n))
     (rounds_of (profiled s f.profile) (length f.bytes))) pinned)
 above-low s low [] h = tt
-above-low s low (f ∷ fs) h = each_append (λ x. low ≤ object_tag x)
-    (flat_map (λ round. map (λ j. Ask j f.id round) (upto s.n))
-    (rounds_of (profiled s f.profile) (length f.bytes)))
-    (flat_map (λ (f : Pinned). flat_map (λ round. map (λ j. Ask j f.id round) (upto s.n))
-    (rounds_of (profiled s f.profile) (length f.bytes))) fs)
-    (mono (flat_map (λ round. map (λ j. Ask j f.id round) (upto s.n))
-    (rounds_of (profiled s f.profile) (length f.bytes))) (of-object s f))
-    (mono2 (flat_map (λ (f : Pinned). flat_map (λ round. map (λ j. Ask j f.id round) (upto s.n))
-    (rounds_of (profiled s f.profile) (length f.bytes))) fs) (above-low s (f.id + 1) fs h.1))
+above-low s low (f ∷ fs) h = each_append (λ x. low ≤ object_tag x) _ _ (mono _ (of-object s f))
+    (mono2 _ (above-low s (f.id + 1) fs h.1))
   where
     mono : (xs : List Action) → Each (λ x. object_tag x ≡ f.id) xs → Each (λ x. low ≤ object_tag x) xs
     mono [] e = tt
@@ -144,20 +132,9 @@ pub distinct-asks : (s : Setup) (low : ℕ) (pinned : List Pinned) → AreAscend
     (λ (f : Pinned). flat_map (λ round. map (λ j. Ask j f.id round) (upto s.n))
     (rounds_of (profiled s f.profile) (length f.bytes))) pinned)
 distinct-asks s low [] h = tt
-distinct-asks s low (f ∷ fs) h =
-    distinct-append (flat_map (λ round. map (λ j. Ask j f.id round) (upto s.n))
-    (rounds_of (profiled s f.profile) (length f.bytes)))
-    (flat_map (λ (f : Pinned). flat_map (λ round. map (λ j. Ask j f.id round) (upto s.n))
-    (rounds_of (profiled s f.profile) (length f.bytes))) fs)
-    (distinct-rounds (profiled s f.profile) f.id (length f.bytes)) (distinct-asks s (f.id + 1) fs h.1)
-    (apart-by object_tag f.id
-    (flat_map (λ round. map (λ j. Ask j f.id round) (upto s.n))
-    (rounds_of (profiled s f.profile) (length f.bytes)))
-    (flat_map (λ (f : Pinned). flat_map (λ round. map (λ j. Ask j f.id round) (upto s.n))
-    (rounds_of (profiled s f.profile) (length f.bytes))) fs)
-    (of-object s f) (beyond
-    (flat_map (λ (f : Pinned). flat_map (λ round. map (λ j. Ask j f.id round) (upto s.n))
-    (rounds_of (profiled s f.profile) (length f.bytes))) fs) (above-low s (f.id + 1) fs h.1)))
+distinct-asks s low (f ∷ fs) h = distinct-append _ _ (distinct-rounds (profiled s f.profile) f.id
+    (length f.bytes)) (distinct-asks s (f.id + 1) fs h.1) (apart-by object_tag f.id _ _ (of-object s f)
+    (beyond _ (above-low s (f.id + 1) fs h.1)))
   where
     beyond : (xs : List Action) → Each (λ x. f.id + 1 ≤ object_tag x) xs → Each (λ x. f.id < object_tag x) xs
     beyond [] e = tt
@@ -172,8 +149,7 @@ pub entries-questions : (n k : ℕ) (now : List Given) (qs : List Question) →
     (λ j. record { job = k; given = Answered j q.file.id q.round (answer_given now q.file.id q.round j) })
     (upto n)) qs
 entries-questions n k now [] = refl
-entries-questions n k now (q ∷ qs) =
-    flat_map-append (entry_for k now) (asks_one n q) (asks_of n qs)
+entries-questions n k now (q ∷ qs) = flat_map-append (entry_for k now) (asks_one n q) (asks_of n qs)
     ∙ (λ i. singles (upto n) i ++ entries-questions n k now qs i)
   where
     singles : (js : List ℕ) → flat_map (entry_for k now) (map (λ j. Ask j q.file.id q.round) js)
@@ -182,8 +158,7 @@ entries-questions n k now (q ∷ qs) =
           given = Answered j q.file.id q.round (answer_given now q.file.id q.round j);
         }) js
     singles [] = refl
-    singles (j ∷ js) = ap
-        (λ l. record {
-          job = k;
-          given = Answered j q.file.id q.round (answer_given now q.file.id q.round j);
-        } ∷ l) (singles js)
+    singles (j ∷ js) = ap (λ l. record {
+      job = k;
+      given = Answered j q.file.id q.round (answer_given now q.file.id q.round j);
+    } ∷ l) (singles js)

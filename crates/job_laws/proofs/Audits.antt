@@ -1,5 +1,5 @@
 -- What an audit leaves whose job was the only one.
-use Rattle.job_laws.proofs.Words.{◌≡◌, ℕ, ◌<◌, ◌≤◌, ◌⊎◌, List, [], ◌∷◌, ◌++◌, length, take, Option, None, Some, refl, ap, sym, subst, ◌∙◌, inl, inr, arith, slice_get, IfSome, option_map, flat_map, cases_lt, Each, each_get, each_append, each_map, each_flat, each_take, upto, honest_answer, Sums, Judges, Held, Provider, rose-before, Setup, Record, AuditStart, AuditDone, File, next_audit, files_of, AuditJob, Pinned, Given, Answered, Job, profiled, object_of, Action, WriteBody, Store, Fetch, Ask, Work, Remove, End, append_actions, ask_actions, rounds_of, actions_of, appends_left, Answer, challenge_in, HasSums, JudgesFiles, answer_given, answers_given, pinned_size, Entry, entries_of, State, Doubt, setup_in, ended, next_action, EndsAs, next_stands, Question, files_by_number, questions, challenge_at, answer_heard, answer_entries, HearsRounds, JudgesOne, no_sums, CountsHeard, audit_records, AuditIsCut, AuditGives, AuditLeaves, RunsJob, Leaves, Ran, ran_from, object_at_begin, IsWhole, IsTruthful, valid-shape, audit_rest, audit-list, audit-first, audit-later, setup-valid, With, Made, object_made, IsOpenAtRest, MayName, RecordsAre, with_job_of, Walked, made-split, Wrote, wrote, runs, opened-sound, first-body}
+use Rattle.job_laws.proofs.Words.{◌≡◌, ℕ, ◌<◌, ◌≤◌, ◌⊎◌, List, [], ◌∷◌, ◌++◌, length, take, Option, None, Some, refl, ap, sym, subst, ◌∙◌, inl, inr, arith, slice_get, IfSome, option_map, flat_map, cases_lt, Each, each_get, each_append, each_map, each_mono, each_flat, each_take, upto, honest_answer, Sums, Judges, Held, Provider, rose-before, Setup, Record, AuditStart, AuditDone, File, next_audit, files_of, AuditJob, Given, Answered, Job, profiled, object_of, Action, WriteBody, Store, Fetch, Ask, Work, Remove, End, append_actions, ask_actions, rounds_of, actions_of, appends_left, Answer, challenge_in, HasSums, answer_given, answers_given, pinned_size, Entry, entries_of, State, Doubt, setup_in, ended, next_action, EndsAs, Question, files_by_number, questions, challenge_at, answer_heard, answer_entries, HearsRounds, JudgesOne, no_sums, CountsHeard, audit_records, AuditIsCut, AuditGives, AuditLeaves, RunsJob, Leaves, Ran, ran_from, object_at_begin, IsWhole, IsTruthful, valid-shape, audit_rest, audit-list, audit-first, audit-later, setup-valid, With, Made, object_made, IsOpenAtRest, MayName, RecordsAre, with_job_of, Walked, made-split, Wrote, wrote, runs, opened-sound, first-body}
 use Rattle.std.proofs.Common.{map}
 use Rattle.machine_defs.specs.Answers as answer
 use Rattle.job_laws.proofs.Runs.{Ends, job-ends}
@@ -14,7 +14,7 @@ use Rattle.job_laws.proofs.Asked.{pinned-by_number, asks_of, asks-questions, dis
 use Rattle.job_laws.proofs.Profiles.{made-numbered, numbered-file}
 use Rattle.run_laws.proofs.Sums.{sums-one}
 use Rattle.job_laws.proofs.Judged.{files-questions}
-use Rattle.job_laws.proofs.Truth.{IsQuiet, asks-told}
+use Rattle.job_laws.proofs.Truth.{if-some, IsQuiet, asks-told}
 use Rattle.job_laws.proofs.Questions.{each-in, held-sizes, each-both, all-each, each-question, sizes-pinned, Fits, told-questions, lacks-questions}
 
 -- ---- the actions of an audit
@@ -30,28 +30,9 @@ IsAuditing n action = Unit {0}
 
 auditing-asks : (s : Setup) (job : Job) → Each (IsAuditing s.n) (ask_actions s job)
 auditing-asks s job =
-    each_flat (IsAuditing s.n)
-    (λ (f : Pinned). flat_map (λ round. map (λ j. Ask j f.id round) (upto s.n))
-    (rounds_of (profiled s f.profile) (length f.bytes))) job.pinned
-    (λ f. each_flat (IsAuditing s.n) (λ round. map (λ j. Ask j f.id round) (upto s.n))
-    (rounds_of (profiled s f.profile) (length f.bytes))
+    each_flat (IsAuditing s.n) _ job.pinned (λ f. each_flat (IsAuditing s.n)
+    (λ round. map (λ j. Ask j f.id round) (upto s.n)) (rounds_of (profiled s f.profile) (length f.bytes))
     (λ round. each-upto (IsAuditing s.n) (λ j. Ask j f.id round) 0 s.n (λ k l. omega (arith, l))))
-
-auditing-list : (s : Setup) (job : Job) → Each (IsAuditing s.n) (append_actions ++ audit_rest s job)
-auditing-list s job = (
-  tt,
-  (
-    tt,
-    (
-      tt,
-      (
-        tt,
-        each_append (IsAuditing s.n) (ask_actions s job) (append_actions ++ End ∷ [])
-            (auditing-asks s job) (tt, (tt, (tt, (tt, (tt, tt))))),
-      ),
-    ),
-  ),
-)
 
 -- ---- moves change nothing of providers
 
@@ -72,38 +53,26 @@ module _ (start : State) (O : IsOpenAtRest start 1) (w : State) (job : Job)
   list-is = audit-list s job W.kind_is
 
   auditing-all : Each (IsAuditing s.n) (actions_of s job)
-  auditing-all = subst (Each (IsAuditing s.n)) (sym list-is) (auditing-list s job)
+  auditing-all = rw list-is (each_append (IsAuditing s.n) append_actions (audit_rest s job)
+      (tt, (tt, (tt, (tt, tt)))) (each_append (IsAuditing s.n) (ask_actions s job) (append_actions ++ End ∷ [])
+      (auditing-asks s job) (tt, (tt, (tt, (tt, (tt, tt)))))))
 
   auditing-next : (action : Action) → next_action w job ≡ Some action → (action ≡ End → ⊥) →
       IsAuditing s.n action
   auditing-next action next n = each_get (IsAuditing s.n) (actions_of s job) job.place action auditing-all
       (cc)
 
-  made-taken : Each (IsAuditing s.n) (take job.place (actions_of s job))
-  made-taken = each_take (IsAuditing s.n) (actions_of s job) job.place auditing-all
-
   -- providers hold what they held, and were fetched from no more
-  pub held-kept : (i : ℕ) → (w.providers i).held ≡ (start.providers i).held
-  held-kept i = made-keeps x i (λ p q. q.held ≡ p.held) (IsAuditing s.n) (λ p. refl) (λ p q r a b. b ∙ a) step
-      (take job.place (actions_of s job)) start.providers w.providers [] job.given made-taken W.made
+  kept : (i : ℕ) → ((w.providers i).held ≡ (start.providers i).held) ×
+      ((w.providers i).fetches ≡ (start.providers i).fetches)
+  kept i = made-keeps x i (λ p q. (q.held ≡ p.held) × (q.fetches ≡ p.fetches)) (IsAuditing s.n)
+      (λ p. (refl, refl)) (λ p q r a b. (b.0 ∙ a.0, b.1 ∙ a.1)) step (take job.place (actions_of s job))
+      start.providers w.providers [] job.given
+      (each_take (IsAuditing s.n) (actions_of s job) job.place auditing-all) W.made
     where
       step : (a : Action) (given now : List Given) (p q : Provider) → IsAuditing s.n a →
-          Called x a given now i p q → q.held ≡ p.held
-      step (Ask j o r) given now p q u (e, (symbol, c, is)) = c.held
-      step (Store j o t) given now p q u c = absurd u
-      step (Fetch j o t) given now p q u c = absurd u
-      step (Work o t) given now p q u c = absurd u
-      step (Remove j o) given now p q u c = absurd u
-      step a given now p q u c = absurd c
-
-  fetches-kept : (i : ℕ) → (w.providers i).fetches ≡ (start.providers i).fetches
-  fetches-kept i = made-keeps x i (λ p q. q.fetches ≡ p.fetches) (IsAuditing s.n) (λ p. refl)
-      (λ p q r a b. b ∙ a) step (take job.place (actions_of s job)) start.providers w.providers
-      [] job.given made-taken W.made
-    where
-      step : (a : Action) (given now : List Given) (p q : Provider) → IsAuditing s.n a →
-          Called x a given now i p q → q.fetches ≡ p.fetches
-      step (Ask j o r) given now p q u (e, (symbol, c, is)) = c.counts.fetches
+          Called x a given now i p q → (q.held ≡ p.held) × (q.fetches ≡ p.fetches)
+      step (Ask j o r) given now p q u (e, (symbol, c, is)) = (c.held, c.counts.fetches)
       step (Store j o t) given now p q u c = absurd u
       step (Fetch j o t) given now p q u c = absurd u
       step (Work o t) given now p q u c = absurd u
@@ -118,9 +87,7 @@ module _ (start : State) (O : IsOpenAtRest start 1) (w : State) (job : Job)
   -- ---- an audit at a move of one of its appends
 
   unmoved-asks : Each IsUnmoved (ask_actions s job)
-  unmoved-asks = each_flat IsUnmoved
-      (λ (f : Pinned). flat_map (λ round. map (λ j. Ask j f.id round) (upto s.n))
-      (rounds_of (profiled s f.profile) (length f.bytes))) job.pinned
+  unmoved-asks = each_flat IsUnmoved _ job.pinned
       (λ f. each_flat IsUnmoved (λ round. map (λ j. Ask j f.id round) (upto s.n))
       (rounds_of (profiled s f.profile) (length f.bytes))
       (λ round. each_map IsUnmoved (λ j. Ask j f.id round) (upto s.n) (λ j. (λ m. m))))
@@ -129,15 +96,12 @@ module _ (start : State) (O : IsOpenAtRest start 1) (w : State) (job : Job)
       (move : IsMove action) where
     here : slice_get (append_actions ++ (ask_actions s job ++ (append_actions ++ End ∷ []))) job.place
         ≡ Some action
-    here = ap (λ xs. slice_get xs job.place) (sym list-is)
-        ∙ subst (λ (t : Setup). slice_get (actions_of t job) job.place ≡ Some action) W.setup
-        (next_stands w job action next n)
+    here = cc (ap (λ xs. slice_get xs job.place) (sym list-is))
 
     made-so-far : Made x (take job.place
         (append_actions ++ (ask_actions s job ++ (append_actions ++ End ∷ [])))) start.providers w.providers
         [] job.given
-    made-so-far = subst (λ xs. Made x (take job.place xs) start.providers w.providers [] job.given) list-is
-        W.made
+    made-so-far = rw list-is at W.made
 
     heard-none : appends_left (setup_in w) job ≡ 2 → job.given ≡ []
     heard-none two = elim (cases_lt job.place 4) [
@@ -161,19 +125,16 @@ module _ (start : State) (O : IsOpenAtRest start 1) (w : State) (job : Job)
   module _ (next : next_action w job ≡ Some End) where
     -- all actions but the end were made
     made-asks : Made x (ask_actions s job) start.providers w.providers [] job.given
-    made-asks = (let all : Made x (append_actions ++ (ask_actions s job ++ (append_actions ++ End ∷ [])))
-        start.providers w.providers [] job.given =
-        subst (λ xs. Made x xs start.providers w.providers [] job.given) list-is (end-made O W refl next) in
-        let a = made-split x append_actions (ask_actions s job ++ (append_actions ++ End ∷ []))
-        start.providers w.providers [] job.given all in
+    made-asks = (let a = made-split x append_actions (ask_actions s job ++ (append_actions ++ End ∷ []))
+        start.providers w.providers [] job.given (subst (λ xs. Made x xs start.providers w.providers []
+        job.given) list-is (end-made O W refl next)) in
         let b = made-split x (ask_actions s job) (append_actions ++ End ∷ []) a.0 w.providers a.1 job.given
         a.3 in let c = made-split x append_actions (End ∷ []) b.0 w.providers b.1 job.given b.3 in
         let first = moves-still x start.providers a.0 [] a.1 a.2 in
-        let last = moves-still x b.0 c.0 b.1 c.1 c.2 in let end = c.3 in let p : w.providers ≡ b.0 = cc in
+        let p : w.providers ≡ b.0 = cc in
         let g : job.given ≡ b.1 = cc in
         subst (λ f. Made x (ask_actions s job) f w.providers [] job.given) first.0
-        (subst (λ h. Made x (ask_actions s job) a.0 w.providers h job.given) first.1
-        (subst (λ f. Made x (ask_actions s job) a.0 f a.1 job.given) (sym p)
+        (rw first.1 at (subst (λ f. Made x (ask_actions s job) a.0 f a.1 job.given) (sym p)
         (subst (λ h. Made x (ask_actions s job) a.0 b.0 a.1 h) (sym g) b.2))))
 
   -- ---- an audit that has made all its asks
@@ -192,30 +153,25 @@ module _ (start : State) (O : IsOpenAtRest start 1) (w : State) (job : Job)
     made-questions = subst (λ xs. Made x xs start.providers w.providers [] job.given) asks-are asks
 
     distinct-questions : AreDistinct (asks_of s.n asked)
-    distinct-questions = subst AreDistinct asks-are
-        (distinct-asks s 0 job.pinned (W.sound.jobs job.number job (runs start O AuditJob w job W)).ascending)
+    distinct-questions = rw asks-are at (distinct-asks s 0 job.pinned (W.sound.jobs job.number job
+        (runs start O AuditJob w job W)).ascending)
 
     quiet-questions : Each IsQuiet (asks_of s.n asked)
-    quiet-questions = subst (Each IsQuiet) asks-are (quiet (ask_actions s job) (auditing-asks s job))
+    quiet-questions = subst (Each IsQuiet) asks-are
+        (each_mono (IsAuditing s.n) IsQuiet (ask_actions s job) one (auditing-asks s job))
       where
-        quiet : (xs : List Action) → Each (IsAuditing s.n) xs → Each IsQuiet xs
-        quiet [] h = tt
-        quiet (y ∷ xs) h = (one y h.0, quiet xs h.1)
-          where
-            one : (y : Action) → IsAuditing s.n y → IsQuiet y
-            one (Store j o t) u = absurd u
-            one (Fetch j o t) u = absurd u
-            one (Work o t) u = absurd u
-            one (Remove j o) u = absurd u
-            one y u = tt
+        one : (y : Action) → IsAuditing s.n y → IsQuiet y
+        one (Store j o t) u = absurd u
+        one (Fetch j o t) u = absurd u
+        one (Work o t) u = absurd u
+        one (Remove j o) u = absurd u
+        one y u = tt
 
     -- what it heard is an entry for each question and provider
-    heard-entries : entries_of 1 job.given ≡ flat_map
-        (λ (q : Question). map
-        (λ j. record {
-          job = 1;
-          given = Answered j q.file.id q.round (answer_given job.given q.file.id q.round j);
-        })
+    heard-entries : entries_of 1 job.given ≡ flat_map (λ (q : Question). map (λ j. record {
+      job = 1;
+      given = Answered j q.file.id q.round (answer_given job.given q.file.id q.round j);
+    })
         (upto s.n)) asked
     heard-entries = entries-made 1 x (asks_of s.n asked) start.providers w.providers
         [] job.given distinct-questions made-questions ∙ entries-questions s.n 1 job.given asked
@@ -256,57 +212,35 @@ module _ (start : State) (O : IsOpenAtRest start 1) (w : State) (job : Job)
       files-known = each-question s (λ (f : File). (pinned_size x.pinned f.id ≡ f.size) × IsMade f)
           (files_by_number files)
           (each-both (λ (f : File). pinned_size x.pinned f.id ≡ f.size) IsMade (files_by_number files)
-          (subst (λ ps. Each (λ (f : File). pinned_size ps f.id ≡ f.size) (files_by_number files))
-          (sym (pinned-by_number start files))
-          (sizes-pinned start (files_by_number files)
+          (rw (← (pinned-by_number start files)) at (sizes-pinned start (files_by_number files)
           (each-by_number (λ (f : File). length (start.bytes f.id) ≡ f.size) files (held-sizes start O))))
           (each-by_number IsMade files files-made))
 
       fits : (held : Held) (j : ℕ) (below : j < s.n) →
           Each (Fits x job.given held j s.n below (gave j) (honest held)) asked
       unfolding setup_in
-      fits held j below = known asked files-known
-        where
-          one : (q : Question) → (pinned_size x.pinned q.file.id ≡ q.file.size) × IsMade q.file →
-              Fits x job.given held j s.n below (gave j) (honest held) q
-          one q e = (
-            answer-heard 1 job.given q.file.id q.round j,
-            cc,
-          )
-
-          known : (qs : List Question) →
-              Each (λ (q : Question). (pinned_size x.pinned q.file.id ≡ q.file.size) × IsMade q.file) qs →
-              Each (Fits x job.given held j s.n below (gave j) (honest held)) qs
-          known [] h = tt
-          known (q ∷ qs) h = (one q h.0, known qs h.1)
+      fits held j below = each_mono
+          (λ (q : Question). (pinned_size x.pinned q.file.id ≡ q.file.size) × IsMade q.file)
+          (Fits x job.given held j s.n below (gave j) (honest held)) asked
+          (λ q e. (answer-heard 1 job.given q.file.id q.round j, cc)) files-known
 
       truth : (j : ℕ) → j < s.n →
           IfSome (start.providers j).held
           (λ held. IsTruthful (gave j) (honest held) asked (start.providers j).other_faults
           (new.providers j).other_faults)
-      truth j below = by_held (start.providers j).held refl
-        where
-          tells : (held : Held) → (start.providers j).held ≡ Some held →
-              IsTruthful (gave j) (honest held) asked (start.providers j).other_faults
-              (new.providers j).other_faults
-          tells held e =
-              (let t = asks-told x j held job.given (asks_of s.n asked) start.providers w.providers
-              [] quiet-questions distinct-questions made-questions e in
-              let f = fits held j below in
-              record {
-                each = all-each (λ q. (gave j q ≡ honest held q) ⊎ (gave j q ≡ None)) asked
-                    (told-questions x job.given held j s.n below (gave j) (honest held) asked f t.0);
-                few = λ l. (let same : (new.providers j).other_faults ≡ (w.providers j).other_faults = cc in
-                    let c = t.1 (omega (arith, l, same)) in let m =
-                    lacks-questions x job.given held j s.n below (gave j) (honest held) asked f in
-                    omega (arith, c, m, same));
-              })
-
-          by_held : (h : Option Held) → (start.providers j).held ≡ h →
-              IfSome h (λ held. IsTruthful (gave j) (honest held) asked (start.providers j).other_faults
-              (new.providers j).other_faults)
-          by_held None e = tt
-          by_held (Some held) e = tells held e
+      truth j below = if-some (start.providers j).held _ (λ held e.
+          (let t = asks-told x j held job.given (asks_of s.n asked) start.providers w.providers
+          [] quiet-questions distinct-questions made-questions e in
+          let f = fits held j below in
+          record {
+            each = all-each (λ q. (gave j q ≡ honest held q) ⊎ (gave j q ≡ None)) asked
+                (told-questions x job.given held j s.n below (gave j) (honest held) asked f t.0);
+            few = λ l. (let same : (new.providers j).other_faults ≡ (w.providers j).other_faults = cc in omega (
+              arith,
+              t.1 (omega (arith, l, same)),
+              lacks-questions x job.given held j s.n below (gave j) (honest held) asked f,
+            ));
+          }))
 
       hears : HearsRounds ran job.subject
       unfolding setup_in
@@ -317,18 +251,17 @@ module _ (start : State) (O : IsOpenAtRest start 1) (w : State) (job : Job)
       unfolding setup_in
       judged sums has = files-questions ran s start job one (files_by_number files) (no_sums ran) sums
           (each-by_number (λ (f : File). length (start.bytes f.id) ≡ f.size) files (held-sizes start O))
-          (subst (λ ps. JudgesFiles s job ps (no_sums ran) sums) (W.pinned ∙ pinned-by_number start files)
-          (subst (λ (t : Setup). HasSums t job sums) W.setup has))
+          (rw (W.pinned ∙ pinned-by_number start files) at (subst (λ (t : Setup). HasSums t job sums) W.setup
+          has))
         where
           one : (q : Question) (old now : Sums) →
               Judges (object_of (profiled s q.file.profile) q.file.id)
               (challenge_in (profiled s q.file.profile) job q.file.id q.file.size q.round)
               (answers_given job.given s.n q.file.id q.round) old now → JudgesOne ran job.subject q old now
-          one q old now h = subst
-              (λ (g : ℕ → Option ℕ). Judges (object_of (profiled s q.file.profile) q.file.id)
-              (challenge_in (profiled s q.file.profile) job q.file.id q.file.size q.round)
-              (map g (upto s.n)) old now)
-              (λ i j. sym (answer-heard 1 job.given q.file.id q.round j) i) h
+          one q old now h = subst (λ (g : ℕ → Option ℕ). Judges
+              (object_of (profiled s q.file.profile) q.file.id)
+              (challenge_in (profiled s q.file.profile) job q.file.id q.file.size q.round) (map g (upto s.n))
+              old now) (λ i j. sym (answer-heard 1 job.given q.file.id q.round j) i) h
 
       whole : next_action w job ≡ Some End → (sums : Sums) → HasSums (setup_in w) job sums →
           new.records ≡ w.records → new.doubt ≡ w.doubt →
@@ -371,8 +304,7 @@ module _ (start new : State) (how : Answer) (heard : List Entry) (O : IsOpenAtRe
 
   -- the number that it drew
   drawn-number : E.action ≡ End → E.job.subject ≡ next_audit start.records
-  drawn-number at = E.walked.subject
-      ((first-body start O AuditJob E.before E.job E.walked E.action E.next
+  drawn-number at = E.walked.subject ((first-body start O AuditJob E.before E.job E.walked E.action E.next
       (λ e. (let f : End ≡ WriteBody = sym at ∙ e in cc)) AuditJob refl).1 refl)
 
   audit-ends : (a : Answer) → E.action ≡ End → EndsAs E.before E.job AuditJob a → new ≡ ended E.before E.job →
@@ -380,10 +312,10 @@ module _ (start new : State) (how : Answer) (heard : List Entry) (O : IsOpenAtRe
   audit-ends a at so is = by_answer a so
     where
       next : next_action E.before E.job ≡ Some End
-      next = E.next ∙ ap Some at
+      next = cc
 
       providers : new.providers ≡ E.before.providers
-      providers = ap (λ (v : State). v.providers) is
+      providers = cc
 
       asks : Made (with_job_of start AuditJob E.job)
           (ask_actions (setup_in start) E.job) start.providers E.before.providers [] E.job.given
@@ -396,14 +328,12 @@ module _ (start new : State) (how : Answer) (heard : List Entry) (O : IsOpenAtRe
           whole start O E.before E.job E.walked asks new providers next
               (record { counts = counts; undecided = undecided }) has (ap (λ (v : State). v.records) is)
               (ap (λ (v : State). v.doubt) is),
-          subst (HearsRounds (ran_from start new (entries_of 1 E.job.given))) (sym number_is)
-              (hears start O E.before E.job E.walked asks new providers),
-          subst (λ n. CountsHeard (ran_from start new (entries_of 1 E.job.given)) n undecided counts)
-              (sym number_is) (judged start O E.before E.job E.walked asks new providers
-              (record { counts = counts; undecided = undecided }) has),
+          (rw (← number_is) at (hears start O E.before E.job E.walked asks new providers)),
+          (rw (← number_is) at (judged start O E.before E.job E.walked asks new providers
+              (record { counts = counts; undecided = undecided }) has)),
         ),
         providers,
-        (let e = ap (λ (v : State). v.disk_faults) is in omega (arith, e)),
+        (omega (arith, ap (λ (v : State). v.disk_faults) is)),
       )
       by_answer a h = absurd h
 
@@ -428,24 +358,19 @@ module _ (start new : State) (how : Answer) (heard : List Entry) (O : IsOpenAtRe
       number-is : E.job.subject ≡ next_audit start.records
       number-is = E.walked.subject (omega (
         arith,
-        second start O E.before E.job E.walked action next-is n move
-            one,
+        second start O E.before E.job E.walked action next-is n move one,
       ))
 
       heard-all : HearsRounds (ran_from start new heard) (next_audit start.records)
-      heard-all = subst (λ h. HearsRounds (ran_from start new h) (next_audit start.records)) (sym heard-is)
-          (subst (HearsRounds (ran_from start new (entries_of 1 E.job.given))) number-is
-          (hears start O E.before E.job E.walked asks new F.providers))
+      heard-all = rw (← heard-is) at (subst (HearsRounds (ran_from start new (entries_of 1 E.job.given)))
+          number-is (hears start O E.before E.job E.walked asks new F.providers))
 
       counted-all : (sums : Sums) → HasSums (setup_in start) E.job sums →
           CountsHeard (ran_from start new heard) (next_audit start.records) sums.undecided sums.counts
       counted-all sums has =
-          subst (λ h. CountsHeard (ran_from start new h)
-          (next_audit start.records) sums.undecided sums.counts) (sym heard-is)
-          (subst (λ k. CountsHeard (ran_from start new (entries_of 1 E.job.given)) k sums.undecided
-          sums.counts) number-is
-          (judged start O E.before E.job E.walked asks new F.providers sums
-          (subst (λ (t : Setup). HasSums t E.job sums) (sym E.walked.setup) has)))
+          rw (← heard-is) at (subst (λ k. CountsHeard (ran_from start new (entries_of 1 E.job.given)) k
+          sums.undecided sums.counts) number-is (judged start O E.before E.job E.walked asks new
+          F.providers sums (subst (λ (t : Setup). HasSums t E.job sums) (sym E.walked.setup) has)))
 
       cut-second : E.before.records ≡ AuditStart (next_audit start.records) ∷ start.records →
           AuditIsCut (ran_from start new heard)
@@ -488,21 +413,19 @@ module _ (start new : State) (how : Answer) (heard : List Entry) (O : IsOpenAtRe
 
   -- an audit gives what its answer says, and calls no provider in its last step
   pub gives : Gives how
-  gives = act-ends E Gives (audit-ends how)
-      (λ action at move tail h. move-ends O E Gives action at
+  gives = act-ends E Gives (audit-ends how) (λ action at move tail h. move-ends O E Gives action at
       (λ failed F. faulted action at (λ e. subst IsMove e move) move F) no-room h)
-      (λ j o t at h. absurd (auditing-next start O E.before E.job E.walked (Store j o t)
-      (E.next ∙ ap Some at) (λ e. cc)))
-      (λ o t at h. absurd (auditing-next start O E.before E.job E.walked (Work o t)
+      (λ j o t at h. absurd (auditing-next start O E.before E.job E.walked (Store j o t) (E.next ∙ ap Some at)
+      (λ e. cc))) (λ o t at h. absurd (auditing-next start O E.before E.job E.walked (Work o t)
       (E.next ∙ ap Some at) (λ e. cc)))
 
   audit-leaves : AuditLeaves (ran_from start new heard) how
   unfolding setup_in
   audit-leaves = record {
     gives = gives.0;
-    held = λ j l. ap (λ (g : ℕ → Provider). (g j).held) gives.1 ∙ held-kept start O E.before E.job E.walked j;
+    held = λ j l. ap (λ (g : ℕ → Provider). (g j).held) gives.1 ∙ (kept start O E.before E.job E.walked j).0;
     fetches = λ j l. ap (λ (g : ℕ → Provider). (g j).fetches) gives.1
-        ∙ fetches-kept start O E.before E.job E.walked j;
+        ∙ (kept start O E.before E.job E.walked j).1;
   }
 
 -- an audit leaves its records, what it heard and its counts, and providers hold what they held

@@ -1,16 +1,8 @@
 -- Where nothing runs, a begin of the machine is refused as that of a command over the journal that the disk
 -- holds.
-use Rattle.job_laws.proofs.Words.{◌≡◌, ℕ, ◌+◌, Option, None, ◌∙◌, false, List, [], ap, refl, sym, add-zero, is_some, Record, Area, end_in, pack_refusal, Kind, PutJob, aim_of, first_refusal, setup_or_none, State, setup_in, reserved, Sight, aims_of, sight_of, causes, refusal_of_begin, IsOpenAtRest}
-use Rattle.std.specs.Prelude.{sum_by}
+use Rattle.job_laws.proofs.Words.{◌≡◌, ℕ, ◌+◌, Option, None, ◌∙◌, false, [], ap, add-zero, end_in, pack_refusal, Kind, aim_of, first_refusal, State, setup_in, Sight, sight_of, causes, refusal_of_begin, IsOpenAtRest}
 use Rattle.command_defs.specs.Refusals as commands
 use Rattle.command_defs.specs.Refusals.{sight_over}
-
--- where nothing runs no limit of running jobs refuses
-any-limit : (area : Area) (records : List Record) (kind : Kind) (own : Option ℕ) →
-    first_refusal (causes 8 (sight_over area records) (aim_of kind) own)
-    ≡ commands.refusal_over area records kind own
-any-limit area records (PutJob name bytes) own = refl
-any-limit area records kind own = refl
 
 module _ (w : State) where
   -- the state in which nothing runs and jobs go on, with the journal for its history
@@ -25,27 +17,13 @@ module _ (w : State) where
 
   pub refusal-alone : (kind : Kind) (own : Option ℕ) →
       refusal_of_begin 8 alone kind own ≡ commands.refusal_over w.area w.journal kind own
-  refusal-alone kind own = ap (λ (x : Sight). first_refusal (causes 8 x (aim_of kind) own)) sight-alone
-      ∙ any-limit w.area w.journal kind own
+  refusal-alone kind own = cc (ap (λ (x : Sight). first_refusal (causes 8 x (aim_of kind) own)) sight-alone)
 
   module _ {first : ℕ} (O : IsOpenAtRest w first) where
     -- refusals see the same in the state and in the one over the journal
     sight-at-rest : sight_of w ≡ sight_of alone
     unfolding setup_in
-    sight-at-rest = λ i. record {
-      is_barred = O.rest.idle.2 i;
-      is_alone = is_some (O.rest.idle.3 i);
-      aims = aims_of (O.rest.idle.0 i);
-      files = sym O.rest.journal.alike.files i;
-      due = sym O.rest.journal.alike.due i;
-      version = sym O.rest.journal.alike.version i;
-      setup = setup_or_none (sym O.rest.journal.alike.setup i);
-      used = end_in w.area w.journal
-          + sum_by (reserved (sym O.rest.journal.alike.version i)
-          (setup_or_none (sym O.rest.journal.alike.setup i))) (O.rest.idle.0 i);
-      next_id = sym O.rest.journal.alike.id i;
-      next_audit = sym O.rest.journal.alike.audit i;
-    }
+    sight-at-rest = cc
 
     -- in a state at rest a begin is refused as a command's over the journal
     pub refusal-of : (kind : Kind) (own : Option ℕ) →

@@ -1,5 +1,5 @@
 -- Few providers that are wrong or fail do no harm to a get.
-use Rattle.job_laws.proofs.Words.{◌≡◌, ℕ, zero, suc, ◌+◌, ◌<◌, ◌≤◌, ◌==◌, ◌&&◌, ◌||◌, ◌⊎◌, Bool, true, false, cond, List, length, get_or, Option, None, Some, refl, ap, sym, subst, ◌∙◌, inl, inr, arith, IfSome, nat_lt, nat_le, is_some, is_none, range_with_len, list_any, cases_Bool, cases_eq, and_parts, false≢true, or_parts, get-map_range, IsShape, upto, Object, stripes, symbols_in, is_wrong_block, is_wrong, row_polynomial, SeenBlock, OpensFile, block_at, is_agreeing, IsForgery, count_of-within, row-right, profile-room, Rose, last_count, Held, sized, File, file_of, profiled, stripes_of, Answer, AreBytes, Entry, HoldsForgery, State, setup_in, block_heard, blocks_heard, HearsStripes, GetGives, GetLeaves, PutLeaves, DropLeaves, UpgradeLeaves, AuditGives, Ran, ran_from, setup_at_begin, object_at_begin, stripes_at_begin, job_number, missing, IsTruthful, valid-shape, setup-valid, IsOpenAtRest, opened-sound, has_risen, is_bad_with, is_bad, bad_count}
+use Rattle.job_laws.proofs.Words.{◌≡◌, ℕ, zero, suc, ◌+◌, ◌<◌, ◌≤◌, ◌==◌, ◌&&◌, ◌||◌, ◌⊎◌, Bool, true, false, cond, List, length, get_or, Option, None, Some, refl, ap, sym, subst, ◌∙◌, inl, inr, arith, IfSome, nat_lt, nat_le, is_some, is_none, range_with_len, list_any, cases_Bool, cases_eq, and_parts, false≢true, or_parts, get-map_range, IsShape, upto, Object, stripes, symbols_in, is_wrong_block, is_wrong, row_polynomial, SeenBlock, OpensFile, block_at, is_agreeing, IsForgery, count_of-within, row-right, profile-room, Rose, last_count, Held, sized, File, file_of, Answer, AreBytes, Entry, HoldsForgery, State, setup_in, block_heard, blocks_heard, HearsStripes, GetGives, GetLeaves, PutLeaves, DropLeaves, UpgradeLeaves, AuditGives, Ran, ran_from, setup_at_begin, object_at_begin, stripes_at_begin, job_number, missing, IsTruthful, valid-shape, setup-valid, IsOpenAtRest, opened-sound, has_risen, is_bad_with, is_bad, bad_count}
 use Rattle.std.proofs.Common.{map}
 use Rattle.std.proofs.lemmas.Bool.Decides.{nat_tests}
 use Rattle.machine_defs.specs.Answers as answer
@@ -29,19 +29,16 @@ block_at-map f n j l = ap (λ (o : Option SeenBlock). take_out o)
 any-none : (p : ℕ → Bool) (a n : ℕ) → ((t : ℕ) → a ≤ t → t < a + n → p t ≡ false) →
     list_any p (range_with_len a n) ≡ false
 any-none p a zero h = refl
-any-none p a (suc n) h =
-    (λ i. h a (omega arith) (omega arith) i || any-none p (a + 1) n
+any-none p a (suc n) h = (λ i. h a (omega arith) (omega arith) i || any-none p (a + 1) n
     (λ t l u. h t (omega (arith, l)) (omega (arith, u))) i)
 
 none-any : (p : ℕ → Bool) (a n : ℕ) → list_any p (range_with_len a n) ≡ false → (t : ℕ) → a ≤ t → t < a + n →
     p t ≡ false
 none-any p a zero h t l u = absurd (omega (arith, l, u))
-none-any p a (suc n) h t l u =
-    (let q = or_parts (p a) (list_any p (range_with_len (a + 1) n)) h in
+none-any p a (suc n) h t l u = (let q = or_parts (p a) (list_any p (range_with_len (a + 1) n)) h in
     elim (cases_eq t a) [
       | inl e ↦ ap p e ∙ q.0
-      | inr m ↦
-          none-any p (a + 1) n q.1 t (omega (arith, l, m)) (omega (arith, u))
+      | inr m ↦ none-any p (a + 1) n q.1 t (omega (arith, l, m)) (omega (arith, u))
     ])
 
 -- ---- blocks
@@ -93,26 +90,21 @@ not-risen before now h =
     less : (b : ℕ) → nat_le last_count b ≡ false → b < last_count
     less b e = grind (arith, nat_tests, e)
 
-given-held : {B : Type 0} (given held : ℕ → Option B) (m before now : ℕ) →
-    IsTruthful given held (upto m) before now → has_risen before now ≡ false → (t : ℕ) → t < m →
-    given t ≡ held t
-given-held given held m before now T calm t l = (let c = not-risen before now calm in
-    let few : before + missing given held (upto m) ≤ now = T.few c.1 in
-    let one : (given t ≡ held t) ⊎ (given t ≡ None) =
-    subst (λ k. (given k ≡ held k) ⊎ (given k ≡ None)) (get_or-range 0 m t 0 l ∙ (let e : 0 + t ≡ t =
-    omega arith in e)) (T.each t 0 (omega (arith, length-range 0 m, l))) in elim one [
+-- what a provider gives is what it holds, if its count has not risen
+pub given-held : {A B : Type 0} (given held : A → Option B) (xs : List A) (k : ℕ) (z : A) (before now : ℕ) →
+    IsTruthful given held xs before now → has_risen before now ≡ false → k < length xs → get_or xs k z ≡ z →
+    ((is_none (given z) && is_some (held z)) ≡ true → 1 ≤ missing given held xs) → given z ≡ held z
+given-held given held xs k z before now T calm l at lacks = (let c = not-risen before now calm in
+    elim (subst (λ y. (given y ≡ held y) ⊎ (given y ≡ None)) at (T.each k z l)) [
       | inl same ↦ same
-      | inr none ↦ by_held (held t) refl none few c.0
+      | inr none ↦ by_held (held z) refl none (T.few c.1) c.0
     ])
   where
-    by_held : (h : Option _) → held t ≡ h → given t ≡ None → before + missing given held (upto m) ≤ now →
-        now ≤ before → given t ≡ held t
+    by_held : (h : Option _) → held z ≡ h → given z ≡ None → before + missing given held xs ≤ now →
+        now ≤ before → given z ≡ held z
     by_held None e none few low = none ∙ sym e
     by_held (Some b) e none few low =
-        absurd (let both : (is_none (given t) && is_some (held t)) ≡ true =
-        (λ i. is_none (none i) && is_some (e i)) in
-        let r = missing-one given held 0 m t (omega arith) (omega (arith, l)) both in
-        omega (arith, r, few, low))
+        absurd (let r = lacks (λ i. is_none (none i) && is_some (e i)) in omega arith)
 
 -- ---- a provider that is not bad gave no wrong block
 
@@ -131,11 +123,11 @@ module _ (x : Ran) (file : File) (bytes : List ℕ) where
           (x.new j).other_faults) →
           is_wrong_block o bytes j t (block_at (blocks_heard x file.id t) j) ≡ false
       by_held None g T = absurd (false≢true (sym g))
-      by_held (Some held) g T =
-          (let p = or_parts (is_wrong o bytes j (held file.id)) (has_risen (x.old j).other_faults
-          (x.new j).other_faults) g in
+      by_held (Some held) g T = (let p = or_parts (is_wrong o bytes j (held file.id)) _ g in
           let same = given-held (λ s. block_heard x file.id s j) (λ s. sized o.profile.size (held file.id s))
-          m (x.old j).other_faults (x.new j).other_faults T p.1 t l in
+          (upto m) t t (x.old j).other_faults (x.new j).other_faults T p.1 (omega (arith, length-range 0 m, l))
+          (let e : 0 + t ≡ t = omega arith in get_or-range 0 m t t l ∙ e)
+          (missing-one _ _ 0 m t (omega arith) (omega arith)) in
           cc (
             block_at-map (block_heard x file.id t) (setup_at_begin x).n j below,
             wrong-sized o bytes j t (held file.id t),
@@ -156,9 +148,8 @@ module _ (x : Ran) (file : File) (bytes : List ℕ) where
     -- what was heard opens to the file, or holds a forgery
     right-or-forged : (got : List ℕ) → AreBytes bytes → GetGives x file (answer.Got got) →
         (got ≡ bytes) ⊎ ((stripe : ℕ) × (place : ℕ) × IsForgery o bytes (blocks_heard x file.id) stripe place)
-    right-or-forged got fits gives = file_or_forged o bytes file.profile refl shape
-        (blocks_heard x file.id) got fits
-        (subst (λ n. OpensFile o n (blocks_heard x file.id) got) (sym size) gives.1)
+    right-or-forged got fits gives = file_or_forged o bytes file.profile refl shape (blocks_heard x file.id)
+        got fits (subst (λ n. OpensFile o n (blocks_heard x file.id) got) (sym size) gives.1)
 
     -- a forgery needs two more wrong providers than may be
     few-right : (got : List ℕ) → AreBytes bytes → GetGives x file (answer.Got got) →
@@ -166,13 +157,11 @@ module _ (x : Ran) (file : File) (bytes : List ℕ) where
     few-right got fits gives few = elim (right-or-forged got fits gives) [
       | inl same ↦ same
       | inr forged ↦ absurd (let F = forged.2 in
-          let many = F.forged.wrong_ones in
           let within = count_of-within
-          (λ j. is_agreeing o F.opened forged.1 F.row j && is_wrong o bytes j
-          (λ s. block_at (blocks_heard x file.id s) j)) (is_bad x file bytes) 0 (setup_at_begin x).n
+          _ (is_bad x file bytes) 0 (setup_at_begin x).n
           (λ j l e. bad j l (and_parts (is_agreeing o F.opened forged.1 F.row j)
           (is_wrong o bytes j (λ s. block_at (blocks_heard x file.id s) j)) e).1) in
-          omega (arith, many, within, few))
+          omega (arith, F.forged.wrong_ones, few))
     ]
       where
         hears : HearsStripes x file (stripes_at_begin x file)
@@ -183,18 +172,15 @@ module _ (x : Ran) (file : File) (bytes : List ℕ) where
             is_bad x file bytes j ≡ true
         bad j l wrong = elim (cases_Bool (is_bad x file bytes j)) [
           | inl y ↦ y
-          | inr n ↦ absurd (false≢true (cc (each-not-wrong o bytes j (λ s. block_at (blocks_heard x file.id s)
-              j) (λ t k. good-block (stripes_at_begin x file) j hears (omega (arith, l)) n t
-              (subst (λ z. t < stripes_of (profiled (setup_at_begin x) file.profile) z) size k) k))))
+          | inr n ↦ absurd (false≢true (cc (each-not-wrong o bytes j _
+              (λ t k. good-block _ j hears (omega arith) n t (rw size at k) k))))
         ]
 
     -- and as few as may be leave no row lost
     few-kept : (stripe row : ℕ) → GetGives x file (answer.Lost stripe row) →
         bad_count x file bytes ≤ (setup_at_begin x).b → ⊥
-    few-kept stripe row L few = (let k : stripe < stripes o (length bytes) = subst (λ z. stripe < stripes_of
-        (profiled (setup_at_begin x) file.profile) z) (sym size) L.within in
-        let within = count_of-within (λ j. is_wrong_block o bytes j stripe (block_at (blocks_heard x file.id
-        stripe) j)) (is_bad x file bytes) 0 (setup_at_begin x).n (bad-block (stripe + 1) stripe L.hears
+    few-kept stripe row L few = (let k = rw (← size) at L.within in
+        let within = count_of-within _ _ 0 _ (bad-block (stripe + 1) stripe L.hears
         (omega arith) k) in
         L.loses.lost (row_polynomial o (symbols_in o bytes stripe) L.loses.place) (row-right o bytes
         file.profile stripe L.loses.place (blocks_heard x file.id stripe) L.loses.opened refl shape

@@ -1,5 +1,5 @@
 -- What a drop leaves whose job was the only one.
-use Rattle.job_laws.proofs.Words.{◌≡◌, ℕ, ◌-◌, ◌<◌, ◌==◌, true, false, List, [], ◌∷◌, ◌++◌, length, take, None, Some, refl, ap, sym, subst, ◌∙◌, inl, inr, arith, slice_get, is_some, cases_Bool, and_parts, eqb-true, false≢true, Each, each_get, each_append, each_map, each_flat, each_take, upto, Rose, Goes, Provider, rose-before, Setup, File, file_of, DropJob, Given, Job, Action, WriteBody, SyncBody, WriteGate, SyncGate, Store, Work, Remove, End, append_actions, on_each_provider, remove_actions, actions_of, Answer, Ended, Entry, State, setup_in, file_in, ended, Moves, removable, is_idle_drop, next_action, split_get, DroppedFrom, DropsFile, DropLeaves, Leaves, Ran, ran_from, SameHeld, NoFetches, drop_rest, With, Made, IsOpenAtRest, with_job_of, appends-whole, made-split}
+use Rattle.job_laws.proofs.Words.{◌≡◌, ℕ, ◌-◌, ◌<◌, ◌==◌, true, false, List, [], ◌∷◌, ◌++◌, length, take, None, Some, refl, ap, sym, subst, ◌∙◌, inl, inr, arith, slice_get, is_some, cases_Bool, and_parts, eqb-true, false≢true, Each, each_get, each_take, Rose, Goes, Provider, rose-before, Setup, File, file_of, DropJob, Given, Job, Action, WriteBody, SyncBody, WriteGate, SyncGate, Store, Work, End, append_actions, remove_actions, actions_of, Answer, Ended, Entry, State, setup_in, file_in, ended, Moves, removable, is_idle_drop, next_action, split_get, DroppedFrom, DropsFile, DropLeaves, Leaves, Ran, ran_from, SameHeld, NoFetches, drop_rest, With, Made, IsOpenAtRest, with_job_of, appends-whole, made-split}
 use Rattle.std.proofs.Common.{not}
 use Rattle.machine_defs.specs.Answers as answer
 use Rattle.machine_defs.specs.Steps as step
@@ -11,35 +11,21 @@ use Rattle.job_laws.proofs.Leaving.{counts-rise, others-stay}
 use Rattle.job_laws.proofs.Gets.{take-within}
 use Rattle.job_laws.proofs.Removals.{IsWriting, writing-fetches, moves-made, older-goes}
 use Rattle.job_laws.proofs.Endings.{listed, last-kept, move-ends, act-ends, end-left, end-sure, end-made, none-written, one-whole, one-doubted, one-cut}
-use Rattle.job_laws.proofs.Tails.{IsTail, tail-list}
+use Rattle.job_laws.proofs.Tails.{IsTail, NoStore, each-tail}
 
 -- ---- the list of a drop
 
 writing-drop : (s : Setup) (job : Job) (name : List ℕ) → job.kind ≡ DropJob name →
     Each IsWriting (actions_of s job)
-writing-drop s job name kind = subst (Each IsWriting) (sym (drop-list s job name kind)) (
-  tt,
-  (
-    tt,
-    (
-      tt,
-      (
-        tt,
-        each_append IsWriting (remove_actions s job) (End ∷ [])
-            (each_flat IsWriting (λ object. on_each_provider s (λ k. Remove k object)) job.older
-            (λ object. each_map IsWriting (λ k. Remove k object) (upto s.n) (λ k. tt))) (tt, tt),
-      ),
-    ),
-  ),
-)
+writing-drop s job name kind =
+    rw (drop-list s job name kind) (tt, (tt, (tt, (tt, each-tail IsWriting s job (λ k o. tt) tt))))
 
 -- a drop of a name that is in effect is not idle
 not-idle : (w : State) (job : Job) (name : List ℕ) (f : File) → (job.place ≡ 0 → file_in w name ≡ Some f) →
     is_idle_drop w job (DropJob name) ≡ false
 not-idle w job name f h = elim (cases_Bool (is_idle_drop w job (DropJob name))) [
   | inl t ↦ absurd (let p = and_parts (job.place == 0) (not (is_some (file_in w name))) t in
-      let e : not (is_some (file_in w name)) ≡ false = cc (h (eqb-true job.place 0 p.0)) in
-      let g : false ≡ true = sym e ∙ p.1 in false≢true g)
+      let g : false ≡ true = sym (cc (h (eqb-true job.place 0 p.0))) ∙ p.1 in false≢true g)
   | inr n ↦ n
 ]
 
@@ -71,7 +57,8 @@ module _ (start new : State) (name : List ℕ) (how : Answer) (heard : List Entr
             E.job.place (omega arith))) (each_take IsMove append_actions E.job.place
             (tt, (tt, (tt, (tt, tt)))))
         | inr b ↦ absurd (m (each_get IsTail (drop_rest (setup_in start) E.job)
-            (E.job.place - length append_actions) action (tail-list (setup_in start) E.job) b.1))
+            (E.job.place - length append_actions) action
+            (each-tail IsTail (setup_in start) E.job (λ k o. tt) tt) b.1))
       ])
 
   same-held : (action : Action) → E.action ≡ action → (action ≡ End → ⊥) → (IsTail action → ⊥) → SameHeld ran
@@ -93,12 +80,11 @@ module _ (start new : State) (name : List ℕ) (how : Answer) (heard : List Entr
 
   moved : (action : Action) → E.action ≡ action → SameHeld ran →
       Moves E.before E.job action E.before.append (Ended how) new → Gives how
-  moved action at same h = move-ends O E Gives action at
-      (λ failed F. (
-        rose-before start.disk_faults E.before.disk_faults new.disk_faults E.walked.disk F.low F.rose,
-        one-doubted O E.walked refl new heard F,
-        same,
-      ))
+  moved action at same h = move-ends O E Gives action at (λ failed F. (
+    rose-before start.disk_faults E.before.disk_faults new.disk_faults E.walked.disk F.low F.rose,
+    one-doubted O E.walked refl new heard F,
+    same,
+  ))
       (λ N. (one-cut O E.walked refl new heard N.left N.records N.doubt, same)) h
 
   -- ---- a drop that came to its end
@@ -117,21 +103,16 @@ module _ (start new : State) (name : List ℕ) (how : Answer) (heard : List Entr
 
     removed : (given : List Given) × (now : List Given) ×
         Made drop_with (remove_actions (setup_in start) E.job) start.providers E.before.providers given now
-    removed =
-        (let a = made-split drop_with append_actions (drop_rest (setup_in start) E.job) start.providers
-        E.before.providers [] E.job.given
-        (subst (λ xs. Made drop_with xs start.providers E.before.providers [] E.job.given) list-is
-        (end-made O E.walked idle last)) in
+    removed = (let a = made-split drop_with append_actions (drop_rest (setup_in start) E.job) start.providers
+        E.before.providers [] E.job.given (rw list-is at (end-made O E.walked idle last)) in
         let d = made-split drop_with (remove_actions (setup_in start) E.job)
         (End ∷ []) a.0 E.before.providers a.1 E.job.given a.3 in
         let first : a.0 ≡ start.providers = moves-made drop_with start.providers a.0 [] a.1 a.2 in
         let end : E.before.providers ≡ d.0 = d.3.3.0 ∙ d.3.2.0 in (
           a.1,
           d.1,
-          subst (λ f. Made drop_with (remove_actions (setup_in start) E.job) start.providers f a.1
-              d.1) (sym end) (subst
-              (λ f. Made drop_with (remove_actions (setup_in start) E.job) f d.0 a.1 d.1)
-              first d.2),
+          (rw (← end) at (subst (λ f. Made drop_with (remove_actions (setup_in start) E.job) f d.0 a.1 d.1)
+              first d.2)),
         ))
 
     drops-file : new.providers ≡ E.before.providers → DropsFile ran name
@@ -141,9 +122,7 @@ module _ (start new : State) (name : List ℕ) (how : Answer) (heard : List Entr
         each : (j : ℕ) → j < (setup_in start).n →
             Goes (DroppedFrom file.id (Rose (start.providers j).other_faults (new.providers j).other_faults))
             (start.providers j).held (new.providers j).held
-        each j l = subst (λ (q : Provider). Goes
-            (DroppedFrom file.id (Rose (start.providers j).other_faults q.other_faults))
-            (start.providers j).held q.held) (sym (ap (λ (f : ℕ → Provider). f j) providers))
+        each j l = rw (← (ap (λ (f : ℕ → Provider). f j) providers)) at
             (older-goes drop_with start (setup_in start) E.job
             (Some file) start.providers E.before.providers removed.0 removed.1 j O.rest.idle.0
             (E.walked.older (end-left O E.walked idle last) ∙ ap (removable start) in_effect) l removed.2)
@@ -160,36 +139,14 @@ module _ (start new : State) (name : List ℕ) (how : Answer) (heard : List Entr
 
   -- ---- all ends
 
-  abbrev NoStore : Action → Type 0
-  NoStore (Store k o t) = ⊥
-  NoStore action = Unit {0}
-
   unstored : Each NoStore (actions_of (setup_in start) E.job)
-  unstored = subst (Each NoStore) (sym list-is) (
-    tt,
-    (
-      tt,
-      (
-        tt,
-        (
-          tt,
-          each_append NoStore (remove_actions (setup_in start) E.job) (End ∷ [])
-              (each_flat NoStore (λ object. on_each_provider (setup_in start) (λ k. Remove k object))
-              E.job.older (λ object. each_map NoStore (λ k. Remove k object) (upto (setup_in start).n)
-              (λ k. tt))) (tt, tt),
-        ),
-      ),
-    ),
-  )
+  unstored = rw list-is (tt, (tt, (tt, (tt, each-tail NoStore (setup_in start) E.job (λ k o. tt) tt))))
 
   gives : Gives how
-  gives = act-ends E Gives (drop-ends how)
-      (λ action at move tail h. moved action at
-      (same-held action at (λ e. subst IsMove e move) tail) h)
-      (λ k o t at h. absurd
+  gives = act-ends E Gives (drop-ends how) (λ action at move tail h. moved action at
+      (same-held action at (λ e. subst IsMove e move) tail) h) (λ k o t at h. absurd
       (each_get NoStore (actions_of (setup_in start) E.job) E.job.place (Store k o t) unstored
-      (listed E (Store k o t) at (λ e. cc))))
-      (λ o t at h. absurd
+      (listed E (Store k o t) at (λ e. cc)))) (λ o t at h. absurd
       (each_get IsWriting (actions_of (setup_in start) E.job) E.job.place (Work o t)
       (writing-drop (setup_in start) E.job name E.walked.kind_is) (listed E (Work o t) at (λ e. cc))))
 

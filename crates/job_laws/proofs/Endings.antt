@@ -1,6 +1,6 @@
 -- What the ends of all jobs have in common: where a job stood at its last step, what a failed move leaves,
 -- and what had come about where it came to its end.
-use Rattle.job_laws.proofs.Words.{◌≡◌, ℕ, ◌+◌, ◌<◌, ◌⊎◌, false, List, [], ◌∷◌, ◌++◌, take, drop, Option, None, Some, refl, ap, sym, subst, ◌∙◌, inl, inr, arith, slice_get, option_map, take-append-drop, drop-get, Setup, Record, Kind, Job, Action, WriteBody, SyncBody, WriteGate, SyncGate, Store, Fetch, Ask, Work, Remove, End, actions_of, actions_left, appends_left, Answer, Ended, Entry, State, Append, Doubt, setup_in, ended, Moves, is_idle_drop, next_action, Acts, next_stands, ran_from, IsWhole, IsCut, IsCutInDoubt, moves_made, IsInOrder, appends_in, appends-cons, IsOpenAtRest, Made, appends_of, first_record, RecordsAre, with_job_at, WalkedAt, made-append, made-one, Wrote, wrote, runs, left-start}
+use Rattle.job_laws.proofs.Words.{◌≡◌, ℕ, ◌+◌, ◌<◌, ◌⊎◌, false, List, [], ◌∷◌, drop, Option, None, Some, refl, ap, sym, subst, ◌∙◌, inl, inr, arith, slice_get, option_map, take-append-drop, drop-get, Record, Kind, Job, Action, WriteBody, SyncBody, WriteGate, SyncGate, Store, Fetch, Ask, Work, Remove, End, actions_of, actions_left, appends_left, Answer, Ended, Entry, State, Append, Doubt, setup_in, ended, Moves, is_idle_drop, next_action, Acts, next_stands, ran_from, IsWhole, IsCut, IsCutInDoubt, moves_made, IsInOrder, appends_in, appends-cons, IsOpenAtRest, Made, appends_of, first_record, RecordsAre, with_job_at, WalkedAt, made-append, made-one, Wrote, wrote, runs, left-start}
 use Rattle.machine_defs.specs.Answers as answer
 use Rattle.machine_defs.specs.Steps as step
 use Rattle.job_laws.proofs.Runs.{Ends}
@@ -46,13 +46,12 @@ pub move-ends : {start new : State} {kind : Kind} {own : Option ℕ} {how : Answ
     Moves E.before E.job action E.before.append (Ended how) new → Gives how
 move-ends {start} {new} {kind} {own} {how} {heard} O E Gives action at faulted no-room h =
     elim (move-answers E.before E.job new action E.before.append how h) [
-      | inl e ↦ (let failed = subst (λ a. Moves E.before E.job action E.before.append (Ended a) new) e h in
-          subst Gives (sym e) (faulted failed
+      | inl e ↦ (let failed = rw e at h in
+          (rw (← e) at (faulted failed
           (move-faults start O kind E.before E.job E.walked action E.before.append new refl
-          (E.next ∙ ap Some at) failed)))
+          (E.next ∙ ap Some at) failed))))
       | inr e ↦ subst Gives (sym e) (no-room (move-memory start O kind E.before E.job E.walked action
-          E.before.append new refl (cc) (E.next ∙ ap Some at) (subst (λ a. Moves E.before E.job action
-          E.before.append (Ended a) new) e h)))
+          E.before.append new refl (cc) (E.next ∙ ap Some at) (rw e at h)))
     ]
 
 -- the last step was the end, a move, a store or a work
@@ -91,8 +90,7 @@ module _ {start w : State} {kind : Kind} {profile : ℕ} {job : Job} (O : IsOpen
   end-stands = cc
 
   order : IsInOrder (moves_made w.append job.number) (End ∷ drop (job.place + 1) (actions_of (setup_in w) job))
-  order = subst (IsInOrder (moves_made w.append job.number))
-      (drop-get (actions_of (setup_in w) job) job.place End end-stands)
+  order = rw (drop-get (actions_of (setup_in w) job) job.place End end-stands) at
       (W.sound.jobs job.number job (runs start O kind w job W)).order
 
   left : actions_left (setup_in w) job ≡ End ∷ []
@@ -109,13 +107,11 @@ module _ {start w : State} {kind : Kind} {profile : ℕ} {job : Job} (O : IsOpen
   -- all of its list is made, up to the end, which changes nothing
   pub end-made : Made (with_job_at start kind profile job) (actions_of (setup_in start) job)
       start.providers w.providers [] job.given
-  end-made = (let none : drop job.place (actions_of (setup_in start) job) ≡ End ∷ [] =
-      subst (λ (t : Setup). actions_left t job ≡ End ∷ []) W.setup left in
-      let whole : take job.place (actions_of (setup_in start) job) ++ End ∷ [] ≡ actions_of (setup_in start)
-      job = cc (take-append-drop job.place (actions_of (setup_in start) job)) in
+  end-made = (let none : drop job.place (actions_of (setup_in start) job) ≡ End ∷ [] = rw W.setup at left in
       subst (λ xs. Made (with_job_at start kind profile job) xs start.providers w.providers [] job.given)
-      whole (made-append (with_job_at start kind profile job) (take job.place (actions_of (setup_in start)
-      job)) (End ∷ []) start.providers w.providers w.providers [] job.given job.given W.made
+      (cc (take-append-drop job.place (actions_of (setup_in start) job)))
+      (made-append (with_job_at start kind profile job) _ (End ∷ []) start.providers w.providers
+      w.providers [] job.given job.given W.made
       (made-one (with_job_at start kind profile job) End w.providers w.providers job.given job.given
       (refl, refl))))
 

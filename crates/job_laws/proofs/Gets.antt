@@ -1,5 +1,5 @@
 -- What a get leaves whose job was the only one.
-use Rattle.job_laws.proofs.Words.{◌≡◌, ℕ, zero, suc, ◌+◌, ◌-◌, ◌<◌, ◌≤◌, ◌==◌, ◌⊎◌, cond, List, [], ◌∷◌, ◌++◌, length, take, Option, None, Some, refl, ap, sym, subst, ◌∙◌, inl, inr, arith, slice_get, IfSome, option_map, flat_map, range_with_len, cases_eq, eq-eqb, ne_eqb, append_assoc, append-nil, sum_by-cons, sum_by-append, Each, each_get, each_append, each_map, upto, Object, GivesSymbols, LosesRow, OpensFile, last_count, Held, Provider, sized, Fetches, FetchGives, FailsToGive, Setup, Record, File, GetJob, Given, Fetched, Worked, Job, profiled, object_of, stripes_of, Action, Fetch, Ask, Work, End, on_each_provider, open_actions, read_actions, actions_by, actions_of, actions_left, Answer, pinned_file, Ended, block_given, blocks_given, symbols_given, file_given, Entry, entries_of, State, Doubt, setup_in, file_in, worked_object, Acts, GotBytes, cond_true, cond_false, split_get, symbols_given-newest, block_heard, blocks_heard, HearsStripes, GetGives, GetLeaves, Leaves, Ran, ran_from, object_at_begin, stripes_at_begin, missing, IsTruthful, moves_made, appends-order, get-none, With, Did, Made, object_made, IsOpenAtRest, RecordsAre, with_job_of, Walked, made-split, take-append-add, runs}
+use Rattle.job_laws.proofs.Words.{◌≡◌, ℕ, zero, suc, ◌+◌, ◌-◌, ◌<◌, ◌≤◌, ◌==◌, ◌⊎◌, cond, List, [], ◌∷◌, ◌++◌, length, take, Option, None, Some, refl, ap, sym, subst, ◌∙◌, inl, inr, arith, slice_get, IfSome, option_map, flat_map, range_with_len, cases_eq, eq-eqb, ne_eqb, append_assoc, append-nil, sum_by-cons, sum_by-append, Each, each_get, each_append, each_map, upto, Object, GivesSymbols, LosesRow, OpensFile, last_count, Held, Provider, sized, Fetches, FailsToGive, Setup, Record, File, GetJob, Given, Fetched, Job, profiled, object_of, stripes_of, Action, Fetch, Ask, Work, End, on_each_provider, open_actions, read_actions, actions_by, actions_of, actions_left, Answer, pinned_file, Ended, block_given, blocks_given, symbols_given, file_given, Entry, entries_of, State, Doubt, setup_in, file_in, worked_object, Acts, GotBytes, cond_true, cond_false, split_get, symbols_given-newest, block_heard, blocks_heard, HearsStripes, GetGives, GetLeaves, Leaves, Ran, ran_from, object_at_begin, stripes_at_begin, missing, IsTruthful, moves_made, appends-order, get-none, With, Did, Made, object_made, IsOpenAtRest, RecordsAre, with_job_of, Walked, made-split, take-append-add, runs}
 use Rattle.std.proofs.Common.{map, sum_by}
 use Rattle.machine_defs.specs.Answers as answer
 use Rattle.machine_defs.specs.Steps as step
@@ -8,7 +8,7 @@ use Rattle.job_laws.proofs.Runs.{Ends}
 use Rattle.job_laws.proofs.Given.{block-heard}
 use Rattle.job_laws.proofs.Providers.{Called, made-keeps}
 use Rattle.job_laws.proofs.Heard.{IsOver, AreDistinct, block-later, block-newest, symbols-later, distinct-append, distinct-range, distinct-map, entry_for, entries-made, IsNot}
-use Rattle.job_laws.proofs.Truth.{call-hit, call-miss, made-rises, lacks, range-hit, lacks-same, lacks-few}
+use Rattle.job_laws.proofs.Truth.{if-some, call-hit, call-miss, made-rises, lacks, range-hit, lacks-same, lacks-few}
 use Rattle.job_laws.proofs.Questions.{each-front, all-each, each-at}
 use Rattle.job_laws.proofs.Profiles.{made-got, worked-made}
 use Rattle.job_laws.proofs.Lasts.{none-moving}
@@ -29,7 +29,7 @@ take-beyond xs ys p l = ap (λ n. take n (xs ++ ys))
 
 single-get : {X : Type 0} (w x : X) (k : ℕ) → slice_get (w ∷ []) k ≡ Some x → (k ≡ 0) × (x ≡ w)
 single-get w x zero h = (refl, (let e : Some w ≡ Some x = h in let f : w ≡ x = cc in sym f))
-single-get w x (suc k) h = absurd (let e : None ≡ Some x = h in cc)
+single-get w x (suc k) h = absurd (cc h)
 
 flat-append : {A X : Type 0} (f : A → List X) (xs ys : List A) →
     flat_map f (xs ++ ys) ≡ flat_map f xs ++ flat_map f ys
@@ -63,22 +63,20 @@ module _ (s : Setup) (id : ℕ) where
               (each_map (λ y. (j : ℕ) × (y ≡ Fetch j id a)) (λ j. Fetch j id a) (upto s.n) (λ j. (j, refl)))
               f.1 in Cut.at_fetch g.0 a g.1)
           | inr w ↦ (let e = single-get (Work id a) x (p - length (fetches a)) w.1 in
-              let at : p ≡ length (fetches a) + 0 = (omega arith) in
-              Cut.at_work 0 (omega arith) (e.1 ∙ ap (Work id) (let z : a ≡ a + 0 = omega arith in
-              z)) (ap (λ q. take q ((open_actions s id a ++ reads (a + 1) n) ++ End ∷ [])) at
+              Cut.at_work 0 (omega arith) (e.1 ∙ ap (Work id) (omega arith))
+              (ap (λ q. take q ((open_actions s id a ++ reads (a + 1) n) ++ End ∷ [])) (omega arith)
               ∙ (ap (take (length (fetches a) + 0)) (append_assoc (open_actions s id a) (reads (a + 1) n)
               (End ∷ []) ∙ append_assoc (fetches a) (Work id a ∷ []) (reads (a + 1) n ++ End ∷ []))
               ∙ (take-append-add (fetches a) (Work id a ∷ (reads (a + 1) n ++ End ∷ [])) 0
-              ∙ (append-nil (fetches a) ∙ ap fetches (let z : a ≡ a + 0 = omega arith in z))))))
+              ∙ (append-nil (fetches a) ∙ ap fetches (omega arith))))))
         ]
         | inr later ↦ elim (cut n (a + 1) (p - length (open_actions s id a)) x later.1) [
           | Cut.at_end is front ↦ Cut.at_end is (cc (behind later.0))
           | Cut.at_work k l is front ↦ Cut.at_work (suc k) (omega (arith, l))
-              (is ∙ ap (Work id) (let z : a + 1 + k ≡ a + suc k = omega arith in z))
-              (behind later.0 ∙ (ap (λ ys. open_actions s id a ++ ys) front
+              (is ∙ ap (Work id) (omega arith)) (behind later.0 ∙ (ap (λ ys. open_actions s id a ++ ys) front
               ∙ (sym (append_assoc (open_actions s id a) (reads (a + 1) k) (fetches (a + 1 + k)))
               ∙ ap (λ t. (open_actions s id a ++ reads (a + 1) k) ++ fetches t)
-              (let z : a + 1 + k ≡ a + suc k = omega arith in z))))
+              (omega arith))))
           | Cut.at_fetch j t is ↦ Cut.at_fetch j t is
         ]
       ]
@@ -114,8 +112,7 @@ module _ (s : Setup) (id : ℕ) where
 
   distinct-open : (t : ℕ) → AreDistinct (open_actions s id t)
   distinct-open t = distinct-append (fetches t) (Work id t ∷ []) (distinct-fetches t) (tt, tt)
-      (each_map (λ x. IsOver x (Work id t ∷ [])) (λ j. Fetch j id t) (upto s.n)
-      (λ j. ((λ e. (let f : Fetch j id t ≡ Work id t = e in cc)), tt)))
+      (each_map (λ x. IsOver x (Work id t ∷ [])) (λ j. Fetch j id t) (upto s.n) (λ j. ((λ e. (cc e)), tt)))
 
   distinct-reads : (a n : ℕ) → AreDistinct (reads a n)
   distinct-reads a n = distinct-range stripe_tag (open_actions s id) a n open-tags distinct-open
@@ -219,16 +216,15 @@ module _ (x : With) (j : ℕ) (held : Held) (now : List Given) where
     held_is = c.held ∙ h;
     count = λ l. (let one : lack_block (Fetch k o t) ≡ lacks block (has o t) =
         cc (cond_true (k == j) (lacks (block_given now o t k) (has o t)) 0 (eq-eqb k j hit)) in elim gives [
-          | inl g ↦ (omega (arith, lacks-same block (has o t) g, one))
-          | inr f ↦ (let z = lacks-few block (has o t) in let low = c.counts.other_faults in
-              let up = f.1 (omega (arith, low, l)) in omega (arith, one, z, up))
+          | inl g ↦ (omega (arith, lacks-same block (has o t) g))
+          | inr f ↦ (let z = lacks-few block (has o t) in let up = f.1 (omega (arith, c.counts.other_faults))
+              in omega arith)
         ]);
   }
     where
       gives : (block ≡ has o t) ⊎ FailsToGive p block q
       gives = elim c.gives [
-        | inl g ↦
-            inl (subst (λ hs. FetchGives (object_made x o).profile.size o t hs block) h g)
+        | inl g ↦ inl (rw h at g)
         | inr f ↦ inr f
       ]
 
@@ -239,8 +235,8 @@ module _ (x : With) (j : ℕ) (held : Held) (now : List Given) where
       elim (cases_eq k j) [
         | inl hit ↦ fetch-step k o t block (old j) (mid j) hit
             (cc (block-later x actions mid new so_far now k o t rest over, block-newest k o t block given)) h
-            (subst (λ n. Fetches (object_made x o).profile.size o t (old n) block (mid n)) hit
-            (call-hit old k (λ p q. Fetches (object_made x o).profile.size o t p block q) mid called))
+            (rw hit at (call-hit old k (λ p q. Fetches (object_made x o).profile.size o t p block q) mid
+            called))
         | inr miss ↦ still-step (Fetch k o t) (old j) (mid j) (λ e. absurd (miss e))
             (cond_false (k == j) (lacks (block_given now o t k) (has o t)) 0 (ne_eqb k j miss))
             (call-miss old k (λ p q. Fetches (object_made x o).profile.size o t p block q) mid j miss called)
@@ -261,17 +257,20 @@ module _ (x : With) (j : ℕ) (held : Held) (now : List Given) where
       (tt, λ l. (let e = ap (λ (f : ℕ → Provider). (f j).other_faults) m.0 in omega (arith, e)))
   blocks-told (a ∷ actions) old new given reading d (mid, so_far, did, rest) h =
       (let s = read-step a actions old mid new given so_far reading.0 d.0 did rest h in
-      let r = blocks-told actions mid new so_far reading.1 d.1 rest s.held_is in
-      let up = (made-rises x actions mid new so_far now j rest).1 in (
+      let r = blocks-told actions mid new so_far reading.1 d.1 rest s.held_is in (
         (s.told, r.0),
-        λ l. (omega (arith, s.count (omega (arith, up, l)), r.1 l, sum_by-cons lack_block a actions)),
+        λ l. (omega (
+          arith,
+          s.count (omega (arith, (made-rises x actions mid new so_far now j rest).1, l)),
+          r.1 l,
+          sum_by-cons lack_block a actions,
+        )),
       ))
 
   -- works are told of nothing, and lack nothing
   works-told : (ws : List Action) → Each IsWork ws → Each IsToldBlock ws × (sum_by lack_block ws ≡ 0)
   works-told [] w = (tt, refl)
-  works-told (Work o t ∷ ws) w =
-      (let r = works-told ws w.1 in
+  works-told (Work o t ∷ ws) w = (let r = works-told ws w.1 in
       ((tt, r.0), (let f = sum_by-cons lack_block (Work o t) ws in let e = r.1 in omega (arith, f, e))))
   works-told ws w = absurd w.0
 
@@ -287,23 +286,24 @@ module _ (x : With) (j : ℕ) (held : Held) (now : List Given) where
     stripes-told a zero h = tt
     stripes-told a (suc n) h =
         (let p = left-told IsToldBlock (open_actions s id a) (reads s id (a + 1) n) h in
-        let q = left-told IsToldBlock (fetches s id a) (Work id a ∷ []) p.0 in
-        let one = each-at IsToldBlock (λ k. Fetch k id a) 0 s.n j q.0 (omega arith)
+        let one = each-at IsToldBlock (λ k. Fetch k id a) 0 s.n j (left-told IsToldBlock (fetches s id a)
+        (Work id a ∷ []) p.0).0 (omega arith)
         (omega (arith, below)) refl in
         (elim one [ inl e ↦ inl (gave_is a ∙ e) | inr e ↦ inr (gave_is a ∙ e) ], stripes-told (a + 1) n p.1))
 
     stripes-lack : (a n : ℕ) → sum_by lack_block (reads s id a n) ≡ missing gave (has id) (range_with_len a n)
     stripes-lack a zero = refl
-    stripes-lack a (suc n) = (let e = sum_by-append lack_block (open_actions s id a) (reads s id (a + 1) n) in
-        let f = sum_by-append lack_block (fetches s id a) (Work id a ∷ []) in
+    stripes-lack a (suc n) = (let f = sum_by-append lack_block (fetches s id a) (Work id a ∷ []) in
         let w = sum_by-cons lack_block (Work id a) [] in
-        let b = range-hit j lack_block (λ k. Fetch k id a) 0 s.n (λ k m. cond_false (k == j) _ 0
-        (ne_eqb k j m)) (omega arith) (omega (arith, below)) in
-        let c : lack_block (Fetch j id a) ≡ lacks (gave a) (has id a) =
-        cc (cond_true (j == j) (lacks (block_given now id a j) (has id a)) 0 (eq-eqb j j refl), gave_is a) in
         let d : sum_by lack_block (open_actions s id a) ≡ lacks (gave a) (has id a) =
-        (let g : sum_by lack_block (open_actions s id a) ≡ sum_by lack_block (fetches s id a) =
-        omega (arith, f, w) in g ∙ (b ∙ c)) in e ∙ (λ i. d i + stripes-lack (a + 1) n i))
+        (omega (arith, f, w)) ∙ ((range-hit j lack_block (λ k. Fetch k id a) 0 s.n
+        (λ k m. cond_false (k == j) _ 0
+        (ne_eqb k j m)) (omega arith) (omega (arith, below))) ∙ (cc (
+          cond_true (j == j) (lacks (block_given now id a j) (has id a)) 0 (eq-eqb j j refl),
+          gave_is a,
+        ))) in
+        (sum_by-append lack_block (open_actions s id a) (reads s id (a + 1) n)) ∙
+        (λ i. d i + stripes-lack (a + 1) n i))
 
 -- ---- what the work on stripes gave
 
@@ -335,19 +335,17 @@ module _ (x : With) (id : ℕ) (now : List Given) where
   open-gives a rest old new given later m =
       (let p = made-split x (open_actions x.setup id a) rest old new given now m in
       let q = made-split x (fetches x.setup id a) (Work id a ∷ []) old p.0 given p.1 p.2 in let did = q.3.2 in
-      let end = q.3.3 in let given_is : p.1 ≡ q.3.1 = end.1 in
-      let now_is : q.3.1 ≡ Worked id a did.0 ∷ q.1 = did.3 in
-      let blocks : (j : ℕ) → block_given now id a j ≡ block_given q.1 id a j =
-      (λ j. cc (block-later x rest p.0 new p.1 now j id a p.3 (each-not (a + 1) (Fetch j id a) rest
-      (λ l. omega (arith, l)) later))) in let symbols : symbols_given now id a ≡ did.0 =
+      let end = q.3.3 in let blocks : (j : ℕ) → block_given now id a j ≡ block_given q.1 id a j =
+      λ j. cc (block-later x rest p.0 new p.1 now j id a p.3 (each-not (a + 1) (Fetch j id a) rest
+      (λ l. omega arith) later)) in let symbols : symbols_given now id a ≡ did.0 =
       cc (
         symbols-later x rest p.0 new p.1 now id a p.3 (each-not (a + 1) (Work id a) rest
-            (λ l. omega (arith, l)) later),
+            (λ l. omega arith) later),
         symbols_given-newest id a did.0 q.1,
       ) in
-      subst (λ z. GivesSymbols (object_made x id) a (blocks_given now x.setup.n id a) z) (sym symbols)
-      (subst (λ (g : ℕ → Option (List ℕ)). GivesSymbols (object_made x id) a (map g (upto x.setup.n)) did.0)
-      (λ i j. sym (blocks j) i) did.1))
+      (rw (← symbols) at (subst (λ (g : ℕ → Option (List ℕ)). GivesSymbols (object_made x id) a
+      (map g (upto x.setup.n)) did.0)
+      (λ i j. sym (blocks j) i) did.1)))
 
   reads-give : (rest : List Action) (n a : ℕ) (old new : ℕ → Provider) (given : List Given) →
       Each (IsFrom (a + n)) rest → Made x (reads x.setup id a n ++ rest) old new given now → (t : ℕ) → a ≤ t →
@@ -355,28 +353,25 @@ module _ (x : With) (id : ℕ) (now : List Given) where
   reads-give rest zero a old new given from m t l u = absurd (omega (arith, l, u))
   reads-give rest (suc n) a old new given from m t l u =
       (let list = append_assoc (open_actions x.setup id a) (reads x.setup id (a + 1) n) rest in
-      let made : Made x (open_actions x.setup id a ++ (reads x.setup id (a + 1) n ++ rest)) old new given
-      now = subst (λ xs. Made x xs old new given now) list m in
+      let made = rw list at m in
       let onward : Each (IsFrom (a + 1 + n)) rest = subst (λ k. Each (IsFrom k) rest)
       (let e : a + suc n ≡ a + 1 + n = omega arith in e) from in
       elim (cases_eq t a) [
-        | inl e ↦ subst (λ k. GivesSymbols (object_made x id) k (blocks_given now x.setup.n id k)
-            (symbols_given now id k)) (sym e)
-            (open-gives a (reads x.setup id (a + 1) n ++ rest) old new given
+        | inl e ↦ (rw (← e) at (open-gives a (reads x.setup id (a + 1) n ++ rest) old new given
             (each_append (IsFrom (a + 1)) (reads x.setup id (a + 1) n) rest
-            (from-reads (a + 1) (a + 1) n (omega arith)) (lower rest onward)) made)
+            (from-reads (a + 1) (a + 1) n (omega arith)) (lower rest onward)) made))
         | inr o ↦ (let p = made-split x (open_actions x.setup id a)
             (reads x.setup id (a + 1) n ++ rest) old new given now made in
-            reads-give rest n (a + 1) p.0 new p.1 onward p.3 t (omega (arith, l, o)) (omega (arith, u)))
+            reads-give rest n (a + 1) p.0 new p.1 onward p.3 t (omega arith) (omega arith))
       ])
     where
       one : (y : Action) → IsFrom (a + 1 + n) y → IsFrom (a + 1) y
-      one (Fetch k o t) h = omega (arith, h)
-      one (Work o t) h = omega (arith, h)
-      one y h = tt
+      one (Fetch k o t) h = omega arith
+      one (Work o t) h = omega arith
+      one y h = omega (arith, h)
 
       lower : (xs : List Action) → Each (IsFrom (a + 1 + n)) xs → Each (IsFrom (a + 1)) xs
-      lower [] h = tt
+      lower [] h = omega (arith, h)
       lower (y ∷ ys) h = (one y h.0, lower ys h.1)
 
 -- ---- the get
@@ -433,12 +428,10 @@ module _ (start new : State) (name : List ℕ) (how : Answer) (heard : List Entr
       none : moves_made E.before.append E.job.number ≡ 0
       none = elim (cases_eq (moves_made E.before.append E.job.number) 0) [
         | inl e ↦ e
-        | inr more ↦ absurd (let o =
-            (E.walked.sound.jobs E.job.number E.job
+        | inr more ↦ absurd (let a = appends-order (moves_made E.before.append E.job.number)
+            (actions_left (setup_in E.before) E.job) (omega arith) (E.walked.sound.jobs E.job.number E.job
             (runs start O (GetJob name) E.before E.job E.walked)).order in
-            let a = appends-order (moves_made E.before.append E.job.number)
-            (actions_left (setup_in E.before) E.job) (omega (arith, more)) o in
-            let b = get-none (setup_in E.before) E.job name E.walked.kind_is in omega (arith, a, b))
+            omega (arith, get-none (setup_in E.before) E.job name E.walked.kind_is))
       ]
 
   -- ---- of the file
@@ -470,8 +463,7 @@ module _ (start new : State) (name : List ℕ) (how : Answer) (heard : List Entr
 
     made-cut : Made x (take E.job.place (reads (setup_in start) file.id 0 count ++ End ∷ [])) start.providers
         E.before.providers [] E.job.given
-    made-cut = subst (λ xs. Made x (take E.job.place xs) start.providers E.before.providers [] E.job.given)
-        (get-list (setup_in start) E.job name E.walked.kind_is ∙ list-is) E.walked.made
+    made-cut = rw (get-list (setup_in start) E.job name E.walked.kind_is ∙ list-is) at E.walked.made
 
     -- the stripes that were fetched
     module _ (providers : new.providers ≡ E.before.providers) (m : ℕ) (xs ws : List Action)
@@ -495,39 +487,23 @@ module _ (start new : State) (name : List ℕ) (how : Answer) (heard : List Entr
       truth : (j : ℕ) → j < (setup_in start).n → IfSome (start.providers j).held (λ held.
           IsTruthful (λ t. block_heard ran file.id t j) (λ t. sized o.profile.size (held file.id t)) (upto m)
           (start.providers j).other_faults (new.providers j).other_faults)
-      truth j below = by_held (start.providers j).held refl
-        where
-          tells : (held : Held) → (start.providers j).held ≡ Some held →
-              IsTruthful (λ t. block_heard ran file.id t j) (λ t. sized o.profile.size (held file.id t))
-              (upto m) (start.providers j).other_faults (new.providers j).other_faults
-          tells held e = subst (λ (z : Object). IsTruthful (λ t. block_heard ran file.id t j)
-              (λ t. sized z.profile.size (held file.id t)) (upto m) (start.providers j).other_faults
-              (new.providers j).other_faults) o-is
-              (let t = blocks-told x j held E.job.given xs start.providers E.before.providers [] reading
-              distinct made e in let v = works-told x j held E.job.given ws works in
-              let all : Each (IsToldBlock x j held E.job.given) (reads (setup_in start) file.id 0 m) =
-              subst (Each (IsToldBlock x j held E.job.given)) (sym whole) (each_append (IsToldBlock x j held
-              E.job.given) xs ws t.0 v.0) in
-              let sum : sum_by (lack_block x j held E.job.given) (reads (setup_in start) file.id 0 m) ≡ sum_by
-              (lack_block x j held E.job.given) xs = ap (sum_by (lack_block x j held E.job.given)) whole
-              ∙ (omega (arith, sum_by-append (lack_block x j held E.job.given) xs ws)) in
-              record {
-                each = all-each (λ t. (block_heard ran file.id t j ≡ has x j held E.job.given file.id t) ⊎
-                    (block_heard ran file.id t j ≡ None)) (upto m)
-                    (stripes-told x j held E.job.given (setup_in start) file.id below
-                    (λ t. block_heard ran file.id t j) (λ t. gave-is file.id t j) 0 m all);
-                few = λ l. (let same : (new.providers j).other_faults ≡ (E.before.providers j).other_faults =
-                    cc in let c = t.1 (omega (arith, l, same)) in
-                    let d = stripes-lack x j held E.job.given (setup_in start) file.id below (λ t. block_heard
-                    ran file.id t j) (λ t. gave-is file.id t j) 0 m in omega (arith, c, d, sum, same));
-              })
-
-          by_held : (h : Option Held) → (start.providers j).held ≡ h →
-              IfSome h (λ held. IsTruthful (λ t. block_heard ran file.id t j)
-              (λ t. sized o.profile.size (held file.id t)) (upto m) (start.providers j).other_faults
-              (new.providers j).other_faults)
-          by_held None e = tt
-          by_held (Some held) e = tells held e
+      truth j below = if-some (start.providers j).held _ (λ held e. subst
+          (λ (z : Object). IsTruthful (λ t. block_heard ran file.id t j)
+          (λ t. sized z.profile.size (held file.id t)) (upto m) (start.providers j).other_faults
+          (new.providers j).other_faults) o-is (let t = blocks-told x j held E.job.given xs start.providers
+          E.before.providers [] reading distinct made e in let v = works-told x j held E.job.given ws works in
+          let sum : sum_by (lack_block x j held E.job.given) (reads (setup_in start) file.id 0 m) ≡ sum_by
+          (lack_block x j held E.job.given) xs = ap (sum_by (lack_block x j held E.job.given)) whole
+          ∙ (omega (arith, sum_by-append (lack_block x j held E.job.given) xs ws)) in
+          record {
+            each = all-each _ (upto m) (stripes-told x j held E.job.given (setup_in start) file.id below
+                (λ t. block_heard ran file.id t j) (λ t. gave-is file.id t j) 0 m
+                (subst (Each (IsToldBlock x j held E.job.given)) (sym whole)
+                (each_append (IsToldBlock x j held E.job.given) xs ws t.0 v.0)));
+            few = λ l. (let same : (new.providers j).other_faults ≡ (E.before.providers j).other_faults =
+                cc in let d = stripes-lack x j held E.job.given (setup_in start) file.id below _
+                (λ t. gave-is file.id t j) 0 m in omega (arith, t.1 (omega (arith, l, same)), sum));
+          }))
 
       hears : HearsStripes ran file m
       unfolding setup_in
@@ -552,9 +528,8 @@ module _ (start new : State) (name : List ℕ) (how : Answer) (heard : List Entr
     reading-reads : (a n : ℕ) → Each IsReading (reads (setup_in start) file.id a n)
     reading-reads a zero = tt
     reading-reads a (suc n) = each_append IsReading (open_actions (setup_in start) file.id a)
-        (reads (setup_in start) file.id (a + 1) n)
-        (each_append IsReading (fetches (setup_in start) file.id a) (Work file.id a ∷ []) (reading-fetches a)
-        (tt, tt)) (reading-reads (a + 1) n)
+        (reads (setup_in start) file.id (a + 1) n) (each_append IsReading (fetches (setup_in start) file.id a)
+        (Work file.id a ∷ []) (reading-fetches a) (tt, tt)) (reading-reads (a + 1) n)
 
     abbrev Gives : Answer → Type 0
     Gives a = GetGives ran file a × (new.providers ≡ E.before.providers) × (new.records ≡ E.before.records) ×
@@ -564,11 +539,11 @@ module _ (start new : State) (name : List ℕ) (how : Answer) (heard : List Entr
         take E.job.place (reads (setup_in start) file.id 0 count ++ End ∷ [])
         ≡ reads (setup_in start) file.id 0 count → Acts E.before E.job End (Ended a) new → Gives a
     unfolding setup_in
-    at-end a at front (so, is) = by_answer a (subst (λ kd. step.Ends E.before E.job kd a) E.walked.kind_is so)
+    at-end a at front (so, is) = by_answer a (rw E.walked.kind_is at so)
       where
         made : Made x (reads (setup_in start) file.id 0 count) start.providers E.before.providers
             [] E.job.given
-        made = subst (λ xs. Made x xs start.providers E.before.providers [] E.job.given) front made-cut
+        made = (rw front at made-cut)
 
         providers : new.providers ≡ E.before.providers
         providers = cc
@@ -578,26 +553,19 @@ module _ (start new : State) (name : List ℕ) (how : Answer) (heard : List Entr
             ((all_heard, opens), providers, ap (λ (v : State). v.records) is, ap (λ (v : State). v.doubt) is)
           where
             all_heard : HearsStripes ran file (stripes_at_begin ran file)
-            all_heard = subst (λ size. HearsStripes ran file
-                (stripes_of (profiled (setup_in start) file.profile) size)) size-is
-                (hears providers count (reads (setup_in start) file.id 0 count) []
+            all_heard = (rw size-is at (hears providers count (reads (setup_in start) file.id 0 count) []
                 (sym (append-nil (reads (setup_in start) file.id 0 count))) tt made
-                (distinct-reads (setup_in start) file.id 0 count) (reading-reads 0 count))
+                (distinct-reads (setup_in start) file.id 0 count) (reading-reads 0 count)))
 
             bytes-are : bytes ≡ file_given (setup_in start) E.job.given (pinned_file start file)
-            bytes-are = subst (λ (t : Setup). bytes ≡ file_given t E.job.given (pinned_file start file))
-                E.walked.setup (subst (λ ps. GotBytes E.before E.job ps bytes) pinned-is got)
+            bytes-are = (rw E.walked.setup at (subst (λ ps. GotBytes E.before E.job ps bytes) pinned-is got))
 
             opens : OpensFile (object_at_begin ran file) file.size (blocks_heard ran file.id) bytes
             opens = subst (λ size. OpensFile o size (blocks_heard ran file.id) bytes) size-is (record {
               symbols = symbols_given E.job.given file.id;
               given = λ t l. heard-blocks (λ bs. GivesSymbols o t bs (symbols_given E.job.given file.id t)) t
-                  (subst (λ (z : Object). GivesSymbols z t
-                  (blocks_given E.job.given (setup_in start).n file.id t)
-                  (symbols_given E.job.given file.id t)) o-is
-                  (reads-give x file.id E.job.given [] count 0 start.providers E.before.providers
-                  [] tt
-                  (subst (λ xs. Made x xs start.providers E.before.providers [] E.job.given)
+                  (rw o-is at (reads-give x file.id E.job.given [] count 0 start.providers E.before.providers
+                  [] tt (subst (λ xs. Made x xs start.providers E.before.providers [] E.job.given)
                   (sym (append-nil (reads (setup_in start) file.id 0 count))) made) t (omega arith)
                   (omega (arith, l))));
               cut = bytes-are;
@@ -612,8 +580,8 @@ module _ (start new : State) (name : List ℕ) (how : Answer) (heard : List Entr
     at-work (answer.Lost t row) k within front (same, loses, is) = (
       record {
         within = few;
-        hears = subst (HearsStripes ran file) (let e : suc k ≡ t + 1 = omega (arith, same) in e) all_heard;
-        before = λ i l. (symbols_given E.job.given file.id i, gave i (omega (arith, l, same)));
+        hears = subst (HearsStripes ran file) (omega (arith, same)) all_heard;
+        before = λ i l. (symbols_given E.job.given file.id i, gave i (omega arith));
         loses = lost;
       },
       providers,
@@ -623,20 +591,19 @@ module _ (start new : State) (name : List ℕ) (how : Answer) (heard : List Entr
       where
         made : Made x (reads (setup_in start) file.id 0 k ++ fetches (setup_in start) file.id (0 + k))
             start.providers E.before.providers [] E.job.given
-        made = subst (λ xs. Made x xs start.providers E.before.providers [] E.job.given) front made-cut
+        made = (rw front at made-cut)
 
         providers : new.providers ≡ E.before.providers
         providers = cc
 
         few : t < stripes_at_begin ran file
         few = subst (λ size. t < stripes_of (profiled (setup_in start) file.profile) size) size-is
-            (omega (arith, within, same))
+            (omega arith)
 
         all_heard : HearsStripes ran file (suc k)
-        all_heard = hears providers (suc k)
-            (reads (setup_in start) file.id 0 k ++ fetches (setup_in start) file.id (0 + k))
-            (Work file.id (0 + k) ∷ []) (reads-last (setup_in start) file.id 0 k) (tt, tt) made
-            (distinct-cut (setup_in start) file.id 0 k)
+        all_heard = hears providers (suc k) (reads (setup_in start) file.id 0 k ++ fetches (setup_in start)
+            file.id (0 + k)) (Work file.id (0 + k) ∷ []) (reads-last (setup_in start) file.id 0 k) (tt, tt)
+            made (distinct-cut (setup_in start) file.id 0 k)
             (each_append IsReading (reads (setup_in start) file.id 0 k)
             (fetches (setup_in start) file.id (0 + k)) (reading-reads 0 k) (reading-fetches (0 + k)))
 
@@ -644,9 +611,7 @@ module _ (start new : State) (name : List ℕ) (how : Answer) (heard : List Entr
             GivesSymbols (object_at_begin ran file) i (blocks_heard ran file.id i)
             (symbols_given E.job.given file.id i)
         gave i l = heard-blocks (λ bs. GivesSymbols o i bs (symbols_given E.job.given file.id i)) i
-            (subst (λ (z : Object). GivesSymbols z i (blocks_given E.job.given (setup_in start).n file.id i)
-            (symbols_given E.job.given file.id i)) o-is
-            (reads-give x file.id E.job.given (fetches (setup_in start) file.id (0 + k)) k 0
+            (rw o-is at (reads-give x file.id E.job.given (fetches (setup_in start) file.id (0 + k)) k 0
             start.providers E.before.providers []
             (from-fetches x file.id E.job.given (0 + k) (0 + k) (omega arith)) made i (omega arith)
             (omega (arith, l))))
@@ -657,8 +622,7 @@ module _ (start new : State) (name : List ℕ) (how : Answer) (heard : List Entr
             (worked-made start O (GetJob name) E.before E.job E.walked file.id ∙ o-is)
             (subst (λ n. LosesRow (worked_object E.before E.job file.id) t
             (blocks_given E.job.given n file.id t) row) (ap (λ (u : Setup). u.n) E.walked.setup)
-            (subst (λ i. LosesRow (worked_object E.before E.job file.id) i
-            (blocks_given E.job.given (setup_in E.before).n file.id i) row) (sym same) loses)))
+            (rw (← same) at loses)))
     at-work a k within front h = absurd h
 
     at-fetch : (a : Answer) (j t : ℕ) → Acts E.before E.job (Fetch j file.id t) (Ended a) new → Gives a
@@ -676,12 +640,10 @@ module _ (start new : State) (name : List ℕ) (how : Answer) (heard : List Entr
     -- providers hold what they held
     reading-cut : Each IsReading (take E.job.place (reads (setup_in start) file.id 0 count ++ End ∷ []))
     reading-cut = elim cut-is [
-      | Cut.at_end is front ↦ subst (Each IsReading) (sym front) (reading-reads 0 count)
-      | Cut.at_work k l is front ↦ subst (Each IsReading) (sym front)
-          (each_append IsReading (reads (setup_in start) file.id 0 k)
-          (fetches (setup_in start) file.id (0 + k)) (reading-reads 0 k) (reading-fetches (0 + k)))
-      | Cut.at_fetch j t is ↦
-          absurd (at-fetch-none how j t (subst (λ z. Acts E.before E.job z (Ended how) new) is E.acts))
+      | Cut.at_end is front ↦ (rw (← front) at (reading-reads 0 count))
+      | Cut.at_work k l is front ↦ (rw (← front) at (each_append IsReading (reads (setup_in start) file.id 0 k)
+          (fetches (setup_in start) file.id (0 + k)) (reading-reads 0 k) (reading-fetches (0 + k))))
+      | Cut.at_fetch j t is ↦ absurd (at-fetch-none how j t (rw is at E.acts))
     ]
       where
         at-fetch-none : (a : Answer) (j t : ℕ) → Acts E.before E.job (Fetch j file.id t) (Ended a) new → ⊥

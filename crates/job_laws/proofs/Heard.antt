@@ -58,9 +58,8 @@ pub distinct-range : (tag : Action → ℕ) (f : ℕ → List Action) (a n : ℕ
     ((k : ℕ) → Each (λ x. tag x ≡ k) (f k)) → ((k : ℕ) → AreDistinct (f k)) →
     AreDistinct (flat_map f (range_with_len a n))
 distinct-range tag f a zero h d = tt
-distinct-range tag f a (suc n) h d =
-    distinct-append (f a) (flat_map f (range_with_len (a + 1) n)) (d a) (distinct-range tag f (a + 1) n h d)
-    (apart-by tag a (f a) (flat_map f (range_with_len (a + 1) n)) (h a)
+distinct-range tag f a (suc n) h d = distinct-append (f a) (flat_map f (range_with_len (a + 1) n)) (d a)
+    (distinct-range tag f (a + 1) n h d) (apart-by tag a (f a) (flat_map f (range_with_len (a + 1) n)) (h a)
     (each-range (λ k x. tag x ≡ k) (λ y. a < tag y) f (a + 1) n (λ k l. h k)
     (λ k x l e. omega (arith, l, e))))
 
@@ -75,10 +74,7 @@ distinct-map tag f a (suc n) h = (
   where
     above : (b m : ℕ) → a < b → Each (IsNot (f a)) (map f (range_with_len b m))
     above b zero l = tt
-    above b (suc m) l = (
-      (λ e. (omega (arith, ap tag e, h a, h b, l))),
-      above (b + 1) m (omega (arith, l)),
-    )
+    above b (suc m) l = ((λ e. (omega (arith, ap tag e, h a, h b, l))), above (b + 1) m (omega (arith, l)))
 
 -- ---- what is looked up of what later actions gave
 
@@ -154,18 +150,16 @@ symbols-later x (a ∷ actions) old new given now object stripe (mid, so_far, di
 -- the three look up what is newest
 pub answer-newest : (j object round : ℕ) (symbol : Option ℕ) (given : List Given) →
     answer_given (Answered j object round symbol ∷ given) object round j ≡ symbol
-answer-newest j object round symbol given =
-    cond_true ((j == j) && (object == object) && (round == round)) symbol (answer_given given object round j)
-    (and_from ((j == j) && (object == object)) (round == round)
+answer-newest j object round symbol given = cond_true ((j == j) && (object == object) && (round == round))
+    symbol (answer_given given object round j) (and_from ((j == j) && (object == object)) (round == round)
     (and_from (j == j) (object == object) (eq-eqb j j refl) (eq-eqb object object refl))
     (eq-eqb round round refl))
 
 -- a block that was just fetched is the one that is looked up
 pub block-newest : (j object stripe : ℕ) (block : Option (List ℕ)) (given : List Given) →
     block_given (Fetched j object stripe block ∷ given) object stripe j ≡ block
-block-newest j object stripe block given =
-    cond_true ((j == j) && (object == object) && (stripe == stripe)) block (block_given given object stripe j)
-    (and_from ((j == j) && (object == object)) (stripe == stripe)
+block-newest j object stripe block given = cond_true ((j == j) && (object == object) && (stripe == stripe))
+    block (block_given given object stripe j) (and_from ((j == j) && (object == object)) (stripe == stripe)
     (and_from (j == j) (object == object) (eq-eqb j j refl) (eq-eqb object object refl))
     (eq-eqb stripe stripe refl))
 
@@ -184,12 +178,11 @@ pub entries-made : (n : ℕ) (x : With) (actions : List Action) (old new : ℕ �
     (given now : List Given) → AreDistinct actions → Made x actions old new given now →
     entries_of n now ≡ entries_of n given ++ flat_map (entry_for n now) actions
 entries-made n x [] old new given now d m = cc (append-nil (entries_of n given))
-entries-made n x (a ∷ actions) old new given now d (mid, so_far, did, rest) =
-    cc (
-      entries-made n x actions mid new so_far now d.1 rest,
-      one a did d.0,
-      append_assoc (entries_of n given) (entry_for n now a) (flat_map (entry_for n now) actions),
-    )
+entries-made n x (a ∷ actions) old new given now d (mid, so_far, did, rest) = cc (
+  entries-made n x actions mid new so_far now d.1 rest,
+  one a did d.0,
+  append_assoc (entries_of n given) (entry_for n now a) (flat_map (entry_for n now) actions),
+)
   where
     nothing : (gs : List Given) → gs ≡ given → entries_of n gs ≡ entries_of n given ++ []
     nothing gs e = cc (append-nil (entries_of n given))

@@ -21,10 +21,7 @@ module _ (x : Ran) (s : Setup) (w : State) (job : Job) where
   round-question judged f [] old new size h = h
   round-question judged f (round ∷ more) old new size (mid, one, rest) = (
     mid,
-    judged (record { file = f; round = round }) old mid
-        (subst (λ n. Judges (object_of (profiled s f.profile) f.id)
-        (challenge_in (profiled s f.profile) job f.id n round)
-        (answers_given job.given s.n f.id round) old mid) size one),
+    judged (record { file = f; round = round }) old mid (rw size at one),
     round-question judged f more mid new size rest,
   )
 
@@ -36,11 +33,7 @@ module _ (x : Ran) (s : Setup) (w : State) (job : Job) where
       (fs : List File) (old new : Sums) → Each (λ (f : File). length (w.bytes f.id) ≡ f.size) fs →
       JudgesFiles s job (map (pinned_file w) fs) old new → JudgesAll x job.subject (questions_in s fs) old new
   files-questions judged [] old new sizes h = h
-  files-questions judged (f ∷ fs) old new sizes (mid, one, rest) =
-      judges-append x job.subject
+  files-questions judged (f ∷ fs) old new sizes (mid, one, rest) = judges-append x job.subject
       (map (λ round. record { file = f; round = round }) (rounds_of (profiled s f.profile) f.size))
-      (questions_in s fs) old mid new
-      (round-question judged f (rounds_of (profiled s f.profile) f.size) old mid sizes.0
-      (subst (λ n. JudgesRounds s job (pinned_file w f) (rounds_of (profiled s f.profile) n) old mid)
-      sizes.0 one))
-      (files-questions judged fs mid new sizes.1 rest)
+      (questions_in s fs) old mid new (round-question judged f (rounds_of (profiled s f.profile) f.size) old
+      mid sizes.0 (rw sizes.0 at one)) (files-questions judged fs mid new sizes.1 rest)

@@ -103,9 +103,8 @@ module _ (start : State) (O : IsOpenAtRest start 1) (kind : Kind) (own : Option 
       BeginsAt 8 moment start kind own (Begun number) begun →
       WalkedAt start kind (chosen (setup_in start) own) begun job →
       AreSteps begun (moment + 1) 1 ms → Keeps start (now begun ms)
-  part-keeps moment number begun job ms b W h =
-      more start begun (now begun ms) (begun-keeps moment number begun b)
-      (steps-keep begun job (moment + 1) ms W h)
+  part-keeps moment number begun job ms b W h = more start begun (now begun ms)
+      (begun-keeps moment number begun b) (steps-keep begun job (moment + 1) ms W h)
 
   -- so does a job that runs alone
   pub runs-keep : (new : State) (moment : ℕ) (how : Answer) (heard : List Entry) → IsSpelledKind kind →

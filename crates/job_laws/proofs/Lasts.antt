@@ -1,5 +1,5 @@
 -- The last step of a job: what it does to the records, to what is in doubt and to the disk's count.
-use Rattle.job_laws.proofs.Words.{barred, ended, ◌≡◌, ℕ, ◌<◌, ◌≤◌, ◌==◌, ◌⊎◌, Bool, true, false, cond, [], ◌∷◌, Option, Some, None, refl, sym, subst, inl, inr, arith, Rose, Kind, Job, job_of, advanced, Action, WriteBody, SyncBody, WriteGate, SyncGate, actions_left, appends_left, Ended, State, Append, Doubt, setup_in, Writes, Moves, next_action, holder_of, number_of, moves_made, IsGatedDoubt, IsDoubtOf, appends-order, body-left, IsOpenAtRest, WalkedAt, runs}
+use Rattle.job_laws.proofs.Words.{barred, ended, ◌≡◌, ℕ, ◌<◌, ◌≤◌, ◌==◌, ◌⊎◌, Bool, true, false, cond, Option, Some, None, refl, sym, subst, inl, inr, arith, Rose, Kind, Job, job_of, advanced, Action, WriteBody, SyncBody, WriteGate, SyncGate, actions_left, appends_left, Ended, State, Append, Doubt, setup_in, Writes, Moves, next_action, holder_of, number_of, moves_made, IsGatedDoubt, IsDoubtOf, appends-order, body-left, IsOpenAtRest, WalkedAt, runs}
 use Rattle.algebra_laws.proofs.Options.{some-not-none}
 use Rattle.machine_defs.specs.Answers as answer
 
@@ -8,15 +8,13 @@ module _ (start : State) (O : IsOpenAtRest start 1) (kind : Kind) {profile : ℕ
   -- the append in flight is the job's
   own-append : (a : Append) → w.append ≡ Some a → (a.job ≡ job.number) × Writes w job job.kind a.entry
   own-append a flight = (let A = W.sound.append a flight in let one : A.job ≡ job = only A.job a.job A.runs in
-      let number : job.number ≡ a.job = cc (number-of A.job a.job A.runs) in
-      (sym number, subst (λ (z : Job). Writes w z z.kind a.entry) one A.writes))
+      (sym (cc (number-of A.job a.job A.runs)), (rw one at A.writes)))
     where
       only : (j : Job) (k : ℕ) → job_of w.jobs k ≡ Some j → j ≡ job
-      only j k h = (let g : job_of (job ∷ []) k ≡ Some j = cc in
-          first (job.number == k) g)
+      only j k h = (first (job.number == k) cc)
         where
           first : (b : Bool) → cond b (Some job) None ≡ Some j → j ≡ job
-          first true e = (let f : job ≡ j = cc in sym f)
+          first true e = cc
           first false e = cc
 
       number-of : (j : Job) (k : ℕ) → job_of w.jobs k ≡ Some j → j.number ≡ k
@@ -25,9 +23,9 @@ module _ (start : State) (O : IsOpenAtRest start 1) (kind : Kind) {profile : ℕ
   -- in an append an append is left
   mid-left : (a : Append) → w.append ≡ Some a → 0 < appends_left (setup_in w) job
   mid-left a flight = (let own = own-append a flight in let A = W.sound.append a flight in
-      let o = (W.sound.jobs job.number job (runs start O kind w job W)).order in
-      let m : moves_made w.append job.number ≡ a.moves = cc in let b = A.begun in
-      appends-order (moves_made w.append job.number) (actions_left (setup_in w) job) (omega (arith, m, b)) o)
+      let m : moves_made w.append job.number ≡ a.moves = cc in appends-order (moves_made w.append job.number)
+      (actions_left (setup_in w) job) (omega (arith, A.begun)) (W.sound.jobs job.number job
+      (runs start O kind w job W)).order)
 
   -- what is in doubt before the last step: nothing, or the record that the job has written
   abbrev pub InDoubt : Option Doubt → Type 0
@@ -71,22 +69,20 @@ module _ (start : State) (O : IsOpenAtRest start 1) (kind : Kind) {profile : ℕ
   -- a move that a fault of the disk ended leaves records and providers, and at most its record in doubt
   pub move-faults : (action : Action) (flight : Option Append) (new : State) → w.append ≡ flight →
       next_action w job ≡ Some action → Moves w job action flight (Ended answer.DiskFault) new → Faults new
-  move-faults WriteBody flight new e next (faults, low, rose, is) = subst Faults (sym is)
-      (stopped faults low rose (body-left 8 w W.sound job.number job (runs start O kind w job W) next))
+  move-faults WriteBody flight new e next (faults, low, rose, is) = (rw (← is) at
+      (stopped faults low rose (body-left 8 w W.sound job.number job (runs start O kind w job W) next)))
   move-faults SyncBody (Some a) new e next (at, (faults, low, rose, is)) =
-      subst Faults (sym is) (stopped faults low rose (mid-left a e))
-  move-faults WriteGate (Some a) new e next (at, (faults, low, rose, is)) =
-      subst Faults (sym is)
-      (record {
-        rose = rose;
-        low = low;
-        records = refl;
-        providers = refl;
-        doubt = inr (record { entry = a.entry; maker = Some (advanced job) }, refl, (own-append a e).1);
-        left = mid-left a e;
-      })
+      (rw (← is) at (stopped faults low rose (mid-left a e)))
+  move-faults WriteGate (Some a) new e next (at, (faults, low, rose, is)) = subst Faults (sym is) (record {
+    rose = rose;
+    low = low;
+    records = refl;
+    providers = refl;
+    doubt = inr (record { entry = a.entry; maker = Some (advanced job) }, refl, (own-append a e).1);
+    left = mid-left a e;
+  })
   move-faults SyncGate (Some a) new e next (at, (faults, low, rose, is)) =
-      subst Faults (sym is) (stopped faults low rose (mid-left a e))
+      (rw (← is) at (stopped faults low rose (mid-left a e)))
   move-faults action flight new e next h = absurd h
 
   -- a write that found no memory
@@ -112,15 +108,13 @@ module _ (start : State) (O : IsOpenAtRest start 1) (kind : Kind) {profile : ℕ
   pub move-memory : (action : Action) (flight : Option Append) (new : State) → w.append ≡ flight →
       holder_of flight action ≡ None → next_action w job ≡ Some action →
       Moves w job action flight (Ended answer.Memory) new → NoRoom new
-  move-memory WriteBody None new e free next is =
-      subst NoRoom (sym is)
-      (record {
-        low = omega arith;
-        records = refl;
-        providers = refl;
-        doubt = none-doubted None e (λ a h. cc);
-        left = body-left 8 w W.sound job.number job (runs start O kind w job W) next;
-      })
+  move-memory WriteBody None new e free next is = subst NoRoom (sym is) (record {
+    low = omega arith;
+    records = refl;
+    providers = refl;
+    doubt = none-doubted None e (λ a h. cc);
+    left = body-left 8 w W.sound job.number job (runs start O kind w job W) next;
+  })
   move-memory WriteBody (Some a) new e free next h = absurd (some-not-none (Some a.job) a.job refl free)
   move-memory WriteGate (Some a) new e free next (at, is) = subst NoRoom (sym is) (record {
     low = omega arith;
@@ -142,5 +136,5 @@ module _ (start : State) (O : IsOpenAtRest start 1) (kind : Kind) {profile : ℕ
       by_flight : (flight : Option Append) → w.append ≡ flight → IsDoubtOf flight w.doubt →
           (w.append ≡ None) × (w.doubt ≡ None)
       by_flight None e h = (e, h)
-      by_flight (Some a) e h = absurd (let own = own-append a e in let b = (W.sound.append a e).begun in
-          let m : moves_made w.append job.number ≡ a.moves = cc in omega (arith, none, b, m))
+      by_flight (Some a) e h = absurd (let own = own-append a e in let m : moves_made w.append job.number ≡
+          a.moves = cc in omega (arith, (W.sound.append a e).begun))

@@ -42,38 +42,31 @@ below-by s job (PutJob name bytes) = each_append (IsBelow s.n) append_actions
     (append_actions ++ (remove_actions s job ++ End ∷ []))
     (each_flat (IsBelow s.n) (λ stripe. on_each_provider s (λ j. Store j job.subject stripe))
     (upto (stripes_of (profiled s job.profile) (length bytes)))
-    (λ stripe. each-upto (IsBelow s.n) (λ j. Store j job.subject stripe) 0 s.n (λ k l. omega (arith, l))))
+    (λ stripe. each-upto (IsBelow s.n) (λ j. Store j job.subject stripe) 0 s.n (λ k l. omega arith)))
     (each_append (IsBelow s.n) append_actions (remove_actions s job ++ End ∷ []) (below-append s.n)
     (each_append (IsBelow s.n) (remove_actions s job) (End ∷ []) (below-removals s job) (tt, tt))))
 below-by s job (GetJob name) = each_append (IsBelow s.n) (read_actions s job.pinned) (End ∷ [])
-    (each_flat (IsBelow s.n)
-    (λ (f : Pinned). on_each_stripe (profiled s f.profile) (length f.bytes) (open_actions s f.id))
-    job.pinned
-    (λ f. each_flat (IsBelow s.n) (open_actions s f.id)
+    (each_flat (IsBelow s.n) (λ (f : Pinned). on_each_stripe (profiled s f.profile) (length f.bytes)
+    (open_actions s f.id)) job.pinned (λ f. each_flat (IsBelow s.n) (open_actions s f.id)
     (upto (stripes_of (profiled s f.profile) (length f.bytes))) (λ stripe. below-open s f.id stripe)))
     (tt, tt)
 below-by s job (DropJob name) =
     each_append (IsBelow s.n) append_actions (remove_actions s job ++ End ∷ []) (below-append s.n)
     (each_append (IsBelow s.n) (remove_actions s job) (End ∷ []) (below-removals s job) (tt, tt))
-below-by s job AuditJob = each_append (IsBelow s.n) append_actions
-    (ask_actions s job ++ (append_actions ++ End ∷ [])) (below-append s.n)
-    (each_append (IsBelow s.n) (ask_actions s job) (append_actions ++ End ∷ [])
-    (each_flat (IsBelow s.n) (λ (f : Pinned). flat_map (λ round. on_each_provider s (λ j. Ask j f.id round))
-    (rounds_of (profiled s f.profile) (length f.bytes))) job.pinned
+below-by s job AuditJob = each_append (IsBelow s.n) append_actions (ask_actions s job ++
+    (append_actions ++ End ∷ [])) (below-append s.n) (each_append (IsBelow s.n) (ask_actions s job)
+    (append_actions ++ End ∷ []) (each_flat (IsBelow s.n) _ job.pinned
     (λ f. each_flat (IsBelow s.n) (λ round. on_each_provider s (λ j. Ask j f.id round))
     (rounds_of (profiled s f.profile) (length f.bytes))
     (λ round. each-upto (IsBelow s.n) (λ j. Ask j f.id round) 0 s.n (λ k l. omega (arith, l)))))
     (tt, (tt, (tt, (tt, (tt, tt))))))
 below-by s job RepairJob = each_append (IsBelow s.n) (repair_actions s job) (append_actions ++ End ∷ [])
-    (each_flat (IsBelow s.n)
-    (λ (f : Pinned). on_each_stripe (profiled s f.profile) (length f.bytes)
-    (λ stripe. open_actions s f.id stripe ++ rewrite_actions s job f.id stripe)) job.pinned
-    (λ f. each_flat (IsBelow s.n) (λ stripe. open_actions s f.id stripe ++ rewrite_actions s job f.id stripe)
-    (upto (stripes_of (profiled s f.profile) (length f.bytes)))
-    (λ stripe. each_append (IsBelow s.n) (open_actions s f.id stripe) (rewrite_actions s job f.id stripe)
-    (below-open s f.id stripe) (below-rewrites s job f.id stripe))))
-    (tt, (tt, (tt, (tt, (tt, tt)))))
-below-by s job UpgradeJob = (tt, (tt, (tt, (tt, (tt, tt)))))
+    (each_flat (IsBelow s.n) _ job.pinned (λ f. each_flat (IsBelow s.n)
+    (λ stripe. open_actions s f.id stripe ++ rewrite_actions s job f.id stripe)
+    (upto (stripes_of (profiled s f.profile) (length f.bytes))) (λ stripe. each_append (IsBelow s.n)
+    (open_actions s f.id stripe) (rewrite_actions s job f.id stripe) (below-open s f.id stripe)
+    (below-rewrites s job f.id stripe)))) (tt, (tt, (tt, (tt, (tt, tt)))))
+below-by s job UpgradeJob = omega arith
 
 -- each call of a job's actions is of a provider of the setup
 pub below : (s : Setup) (job : Job) → Each (IsBelow s.n) (actions_of s job)
@@ -94,10 +87,8 @@ module _ (w : State) (job : Job) (new : State) where
   moves-last : (action : Action) (flight : Option Append) (how : Answer) →
       Moves w job action flight (Ended how) new → (new.providers ≡ w.providers) ×
       (w.disk_faults ≤ new.disk_faults)
-  moves-last WriteBody flight answer.DiskFault (faults, low, rose, is) = (
-    cc,
-    (let e = ap (λ (v : State). v.disk_faults) is in omega (arith, low, e)),
-  )
+  moves-last WriteBody flight answer.DiskFault (faults, low, rose, is)
+      = (cc, (let e = ap (λ (v : State). v.disk_faults) is in omega (arith, e)))
   moves-last WriteBody flight answer.Memory is = (
     cc,
     (let e = ap (λ (v : State). v.disk_faults) is in omega (arith, e)),
@@ -184,12 +175,11 @@ module _ (start new : State) (kind : Kind) (own : Option ℕ) (how : Answer) (he
   }
 
   others-before : (j : ℕ) → (setup_in start).n ≤ j → E.before.providers j ≡ start.providers j
-  others-before j l = made-keeps with_all j (λ p q. q ≡ p) (IsBelow (setup_in start).n)
-      (λ p. refl) (λ p q r a b. b ∙ a)
-      (λ a given now p q b c. absurd
+  others-before j l = made-keeps with_all j (λ p q. q ≡ p) (IsBelow (setup_in start).n) (λ p. refl)
+      (λ p q r a b. b ∙ a) (λ a given now p q b c. absurd
       (called-below with_all (setup_in start).n a given now j p q b l c))
-      (take E.job.place (actions_of (setup_in start) E.job)) start.providers E.before.providers
-      [] E.job.given taken-below made-all
+      (take E.job.place (actions_of (setup_in start) E.job)) start.providers E.before.providers [] E.job.given
+      taken-below made-all
 
   others-last : (j : ℕ) → (setup_in start).n ≤ j → LastCall E.action E.before new →
       new.providers j ≡ E.before.providers j

@@ -1,11 +1,11 @@
 -- Few providers that are wrong or fail lose a repair no row.
-use Rattle.job_laws.proofs.Words.{◌≡◌, ℕ, zero, suc, ◌+◌, ◌<◌, ◌≤◌, ◌&&◌, ◌⊎◌, Bool, true, false, cond, List, [], ◌∷◌, ◌++◌, length, get_or, Option, None, Some, refl, sym, subst, ◌∙◌, inl, inr, arith, IfSome, is_some, is_none, flat_map, range_with_len, cases_Bool, false≢true, or_parts, Each, each_append, each_middle, IsShape, upto, Object, stripes, symbols_in, is_wrong_block, is_wrong, row_polynomial, LosesRow, block_at, count_of, count_of-within, row-right, profile-room, Rose, Held, Setup, File, file_of, files_of, AreAccepted, profiled, stripes_of, Answer, listed_file, files_by_number, Ran, setup_at_begin, object_at_begin, object_numbered, profile_among, Place, blocks_at, held_at, flags, LosesAtPlace, RepairLeaves, missing, IsTruthful, has_risen, is_bad_with, is_bad_for, bad_count}
+use Rattle.job_laws.proofs.Words.{◌≡◌, ℕ, zero, suc, ◌+◌, ◌<◌, ◌≤◌, ◌&&◌, ◌⊎◌, Bool, true, false, cond, List, [], ◌∷◌, ◌++◌, length, get_or, Option, None, Some, refl, sym, subst, inl, inr, arith, IfSome, is_some, is_none, flat_map, range_with_len, cases_Bool, false≢true, or_parts, Each, each_append, each_middle, IsShape, upto, Object, stripes, symbols_in, is_wrong_block, is_wrong, row_polynomial, block_at, count_of, count_of-within, row-right, profile-room, Rose, Held, Setup, File, file_of, files_of, AreAccepted, profiled, stripes_of, Answer, listed_file, files_by_number, Ran, setup_at_begin, object_at_begin, object_numbered, profile_among, Place, blocks_at, held_at, flags, LosesAtPlace, RepairLeaves, missing, IsTruthful, is_bad_with, is_bad_for, bad_count}
 use Rattle.std.proofs.Common.{map}
 use Rattle.machine_defs.specs.Answers as answer
 use Rattle.job_laws.proofs.Asked.{each-by_number}
 use Rattle.job_laws.proofs.Questions.{each-in}
 use Rattle.job_laws.proofs.Profiles.{numbered-file}
-use Rattle.job_laws.proofs.Complete.{block_at-map, wrong-sized, not-wrong-each, not-risen}
+use Rattle.job_laws.proofs.Complete.{block_at-map, wrong-sized, not-wrong-each, given-held}
 
 -- ---- the last of what was asked
 
@@ -23,24 +23,6 @@ missing-last given held [] z e = (let c : ◌≡◌ {A = ℕ} (cond (is_none (gi
     cc in omega (arith, c))
 missing-last given held (x ∷ xs) z e = (omega (arith, missing-last given held xs z e))
 
-last-held : {A B : Type 0} (given held : A → Option B) (xs : List A) (z : A) (before now : ℕ) →
-    IsTruthful given held (xs ++ z ∷ []) before now → has_risen before now ≡ false → given z ≡ held z
-last-held given held xs z before now T calm =
-    (let c = not-risen before now calm in
-    let few : before + missing given held (xs ++ z ∷ []) ≤ now = T.few c.1 in
-    let one : (given z ≡ held z) ⊎ (given z ≡ None) =
-    subst (λ k. (given k ≡ held k) ⊎ (given k ≡ None)) (get_or-last xs z z)
-    (T.each (length xs) z (length-last xs z)) in
-    elim one [ inl same ↦ same | inr none ↦ by_held (held z) refl none few c.0 ])
-  where
-    by_held : (h : Option _) → held z ≡ h → given z ≡ None →
-        before + missing given held (xs ++ z ∷ []) ≤ now → now ≤ before → given z ≡ held z
-    by_held None e none few low = none ∙ sym e
-    by_held (Some b) e none few low =
-        absurd (let both : (is_none (given z) && is_some (held z)) ≡ true =
-        (λ i. is_none (none i) && is_some (e i)) in
-        let r = missing-last given held xs z both in omega (arith, r, few, low))
-
 -- ---- the file of a place
 
 module _ (s : Setup) (P : File → Type 0) where
@@ -56,8 +38,7 @@ module _ (s : Setup) (P : File → Type 0) where
       Each Fits (flat_map (λ (f : File). map (λ stripe. record { object = f.id; stripe = stripe })
       (upto (stripes_of (profiled s f.profile) f.size))) fs)
   fits-places [] h = tt
-  fits-places (f ∷ fs) h =
-      each_append Fits (map (λ stripe. record { object = f.id; stripe = stripe })
+  fits-places (f ∷ fs) h = each_append Fits (map (λ stripe. record { object = f.id; stripe = stripe })
       (upto (stripes_of (profiled s f.profile) f.size)))
       (flat_map (λ (f : File). map (λ stripe. record { object = f.id; stripe = stripe })
       (upto (stripes_of (profiled s f.profile) f.size))) fs)
@@ -84,11 +65,10 @@ module _ (x : Ran) (shape : IsShape (setup_at_begin x).n (setup_at_begin x).l (s
           (x.old j).other_faults (x.new j).other_faults) →
           is_wrong_block o bytes j L.place.stripe (block_at (blocks_at x L.gave L.place) j) ≡ false
       by_held None g T = absurd (false≢true (sym g))
-      by_held (Some held) g T =
-          (let p = or_parts (is_wrong o bytes j (held L.place.object)) (has_risen (x.old j).other_faults
-          (x.new j).other_faults) g in
-          let same = last-held (L.gave j) (held_at x held) L.done L.place (x.old j).other_faults
-          (x.new j).other_faults T p.1 in
+      by_held (Some held) g T = (let p = or_parts (is_wrong o bytes j (held L.place.object)) _ g in
+          let same = given-held (L.gave j) (held_at x held) (L.done ++ L.place ∷ []) (length L.done) L.place
+          (x.old j).other_faults (x.new j).other_faults T p.1 (length-last L.done L.place)
+          (get_or-last L.done L.place L.place) (missing-last (L.gave j) (held_at x held) L.done L.place) in
           cc (
             block_at-map (λ i. L.gave i L.place) (setup_at_begin x).n j below,
             wrong-sized o bytes j L.place.stripe (held L.place.object L.place.stripe),
@@ -105,18 +85,12 @@ module _ (x : Ran) (shape : IsShape (setup_at_begin x).n (setup_at_begin x).l (s
 
   few-mended : L.place.stripe < stripes o (length bytes) →
       count_of is_bad_here (upto (setup_at_begin x).n) ≤ (setup_at_begin x).b → ⊥
-  few-mended k few = (let lost : LosesRow o L.place.stripe (blocks_at x L.gave L.place) row =
-      subst (λ t. LosesRow o t (blocks_at x L.gave L.place) row) (sym L.stripe_is) L.loses in
-      let within = count_of-within (λ j. is_wrong_block o bytes j L.place.stripe
-      (block_at (blocks_at x L.gave L.place) j)) is_bad_here 0 (setup_at_begin x).n (bad-place k) in
+  few-mended k few = (let lost = rw (← L.stripe_is) at L.loses in
+      let within = count_of-within _ is_bad_here 0 _ (bad-place k) in
       lost.lost (row_polynomial o (symbols_in o bytes L.place.stripe) lost.place) (row-right o bytes
       (profile_among (setup_at_begin x).profile (files_of x.records) L.place.object) L.place.stripe lost.place
-      (blocks_at x L.gave L.place) lost.opened refl shape (omega (arith, within, few)) lost.opens
-      (omega (
-        arith,
-        profile-room o (profile_among (setup_at_begin x).profile (files_of x.records)
-            L.place.object) refl,
-      ))))
+      _ lost.opened refl shape (omega arith) lost.opens
+      (omega (arith, profile-room o _ refl))))
 
 -- ---- the repair
 
@@ -135,16 +109,16 @@ module _ (x : Ran) (accepted : AreAccepted x.records)
   pub lost-none : (looked : ℕ → Bool) (stripe row : ℕ) →
       ((name : List ℕ) (file : File) → file_of x.records name ≡ Some file → IsSafe file) →
       LosesAtPlace x looked stripe row → ⊥
-  lost-none looked stripe row safe L = (let all : Each IsFound (files_by_number (files_of x.records)) =
-      each-by_number IsFound (files_of x.records) (each-in IsFound (files_of x.records)
-      (λ f i. (safe f.name f (listed_file x.records f i), numbered-file x accepted f i))) in
-      let fits = each_middle (Fits (setup_at_begin x) IsFound) L.done L.place L.rest
-      (subst (Each (Fits (setup_at_begin x) IsFound)) L.part.parts (fits-places (setup_at_begin x) IsFound
-      (files_by_number (files_of x.records)) all)) in let file = fits.0 in
+  lost-none looked stripe row safe L = (let fits = each_middle (Fits (setup_at_begin x) IsFound) L.done
+      L.place L.rest (subst (Each (Fits (setup_at_begin x) IsFound)) L.part.parts
+      (fits-places (setup_at_begin x) IsFound (files_by_number (files_of x.records))
+      (each-by_number IsFound (files_of x.records) (each-in IsFound (files_of x.records)
+      (λ f i. (safe f.name f (listed_file x.records f i), numbered-file x accepted f i)))))) in
+      let file = fits.0 in
       let at : object_at_begin x file ≡ object_numbered x L.place.object = cc in
       few-mended x shape looked stripe row L (bytes file.id) (subst (λ (z : Object). L.place.stripe < stripes
-      z (length (bytes file.id))) at (subst (λ n. L.place.stripe < stripes_of (profiled (setup_at_begin x)
-      file.profile) n) (sym fits.1.0.0) fits.3)) (subst (λ (z : Object). count_of (λ j. is_bad_for z
+      z (length (bytes file.id))) at (rw (← fits.1.0.0) at fits.3))
+      (subst (λ (z : Object). count_of (λ j. is_bad_for z
       (bytes file.id) j (x.old j) (x.new j)) (upto (setup_at_begin x).n) ≤ (setup_at_begin x).b) at
       fits.1.0.1))
 

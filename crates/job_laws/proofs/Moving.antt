@@ -72,13 +72,11 @@ module _ (x : With) (between behind : List Action) (p : ℕ) (action : Action) (
         take-append-add append_actions (between ++ (append_actions ++ behind)) (length between + r.0),
         take-append-add between (append_actions ++ behind) r.0,
       ) in
-      let all : Made x (append_actions ++ (between ++ take r.0 (append_actions ++ behind))) old new [] now =
-      subst (λ xs. Made x xs old new [] now) front made in
-      let a = made-split x append_actions (between ++ take r.0 (append_actions ++ behind)) old new [] now all
+      let a = made-split x append_actions (between ++ take r.0 (append_actions ++ behind)) old new [] now
+      (subst (λ xs. Made x xs old new [] now) front made)
       in let b = made-split x between (take r.0 (append_actions ++ behind)) a.0 new a.1 now a.3 in
       let start = made-moves x append_actions old a.0 [] a.1 (tt, (tt, (tt, (tt, tt)))) a.2 in
       let end = made-moves x (take r.0 (append_actions ++ behind)) b.0 new b.1 now (few-moves behind r.0 r.1)
       b.3 in
       subst (λ f. Made x between f new [] now) start.0 (subst (λ h. Made x between a.0 new h now) start.1
-      (subst (λ f. Made x between a.0 f a.1 now) (sym end.0) (subst (λ h. Made x between a.0 b.0 a.1 h)
-      (sym end.1) b.2))))
+      (subst (λ f. Made x between a.0 f a.1 now) (sym end.0) (rw (← end.1) at b.2))))

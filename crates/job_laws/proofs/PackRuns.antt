@@ -4,7 +4,7 @@
 --                           == the state, but that the disk holds this journal in this area; a job number is
 --                              used, and nothing runs
 --   PackEnds w answer new   == a pack that began in the state ended with this answer and left the new one
-use Rattle.job_laws.proofs.Words.{◌≡◌, ℕ, zero, suc, ◌+◌, ◌≤◌, Bool, true, false, List, [], ◌∷◌, length, None, Some, refl, ap, sym, subst, ◌∙◌, arith, eq-eqb, Rose, rose-before, Record, Area, other_area, text_length, packed, Packs, Answer, Step, More, Ended, Outcome, Happens, Moment, now, State, Pack, Packing, StepsMine, StepsOpen, Steps, IsOpenAtRest, AreSteps, GoesOnTo, RunsPack}
+use Rattle.job_laws.proofs.Words.{◌≡◌, ℕ, zero, suc, ◌+◌, ◌≤◌, Bool, true, false, List, [], ◌∷◌, length, None, Some, refl, ap, sym, subst, ◌∙◌, arith, eq-eqb, Rose, rose-before, Record, Area, other_area, text_length, packed, Packs, Answer, Step, More, Ended, Outcome, Happens, Moment, now, State, Pack, Packing, StepsOpen, Steps, IsOpenAtRest, AreSteps, GoesOnTo, RunsPack}
 use Rattle.machine_defs.specs.Answers as answer
 
 -- the state, but that the disk holds this journal in this area
@@ -22,13 +22,11 @@ packed_over w journal area switching barred faults = record w {
 -- what a pack left, by its answer: packed, the packed journal in the other area; at a fault of the disk or
 -- for want of memory, the journal as it was; after a fault the switch may be under way
 abbrev pub PackEnds : State → Answer → State → Type 0
-PackEnds w (answer.Packed before after) new =
-    (before ≡ text_length w.area w.journal) × (after ≡ text_length (other_area w.area) (packed w.journal))
-    × (w.disk_faults ≤ new.disk_faults)
-    × (new ≡ packed_over w (packed w.journal) (other_area w.area) false false new.disk_faults)
-PackEnds w answer.DiskFault new =
-    Rose w.disk_faults new.disk_faults × (w.disk_faults ≤ new.disk_faults)
-    × (switching : Bool) × (new ≡ packed_over w w.journal w.area switching true new.disk_faults)
+PackEnds w (answer.Packed before after) new = (before ≡ text_length w.area w.journal) ×
+    (after ≡ text_length (other_area w.area) (packed w.journal)) × (w.disk_faults ≤ new.disk_faults) ×
+    (new ≡ packed_over w (packed w.journal) (other_area w.area) false false new.disk_faults)
+PackEnds w answer.DiskFault new = Rose w.disk_faults new.disk_faults × (w.disk_faults ≤ new.disk_faults) ×
+    (switching : Bool) × (new ≡ packed_over w w.journal w.area switching true new.disk_faults)
 PackEnds w answer.Memory new =
     (w.disk_faults ≤ new.disk_faults) × (new ≡ packed_over w w.journal w.area false false new.disk_faults)
 PackEnds w how new = ⊥
@@ -75,10 +73,8 @@ module _ (w : State) {first : ℕ} (O : IsOpenAtRest w first) where
       Happens 8 k (at moves faults) (Step w.next_job) outcome new →
       Packs (at moves faults) (pack_at moves) moves outcome new
   steps-pack moves faults k outcome new h =
-      subst (λ b. StepsMine (at moves faults) w.next_job (Packing (pack_at moves)) b outcome new)
-      (eq-eqb w.next_job w.next_job refl)
-      (subst (λ b. StepsOpen (at moves faults) w.next_job b outcome new) O.rest.idle.2
-      (subst (λ b. Steps (at moves faults) w.next_job b outcome new) O.opened h))
+      rw (eq-eqb w.next_job w.next_job refl) at (subst (λ b. StepsOpen (at moves faults) w.next_job b outcome
+      new) O.rest.idle.2 (subst (λ b. Steps (at moves faults) w.next_job b outcome new) O.opened h))
 
   -- a move that goes on
   on : (moves faults : ℕ) (new : State) → w.disk_faults ≤ faults →
@@ -105,22 +101,20 @@ module _ (w : State) {first : ℕ} (O : IsOpenAtRest w first) where
   -- the journal is as it was: a disk call failed
   failed : (old f : ℕ) (switching : Bool) (new : State) → w.disk_faults ≤ old → old ≤ f → Rose old f →
       new ≡ packed_over w w.journal w.area switching true f → PackEnds w answer.DiskFault new
-  failed old f switching new low l rose is =
-      (let e = ap (λ (v : State). v.disk_faults) is in (
-        subst (Rose w.disk_faults) (sym e) (rose-before w.disk_faults old f low l rose),
-        omega (arith, low, l, e),
-        switching,
-        past w.journal w.area switching switching true true f new is refl refl,
-      ))
+  failed old f switching new low l rose is = (let e = ap (λ (v : State). v.disk_faults) is in (
+    subst (Rose w.disk_faults) (sym e) (rose-before w.disk_faults old f low l rose),
+    omega (arith, low, l, e),
+    switching,
+    past w.journal w.area switching switching true true f new is refl refl,
+  ))
 
   -- or there was no memory
   unmade : (f : ℕ) (new : State) → w.disk_faults ≤ f →
       new ≡ packed_over w w.journal w.area w.is_switching w.is_barred f → PackEnds w answer.Memory new
-  unmade f new low is =
-      (let e = ap (λ (v : State). v.disk_faults) is in (
-        omega (arith, low, e),
-        past w.journal w.area w.is_switching false w.is_barred false f new is O.rest.unswitched O.rest.idle.2,
-      ))
+  unmade f new low is = (let e = ap (λ (v : State). v.disk_faults) is in (
+    omega (arith, low, e),
+    past w.journal w.area w.is_switching false w.is_barred false f new is O.rest.unswitched O.rest.idle.2,
+  ))
 
   -- the last move
   ends : (moves faults : ℕ) (how : Answer) (new : State) → w.disk_faults ≤ faults →
@@ -148,16 +142,14 @@ module _ (w : State) {first : ℕ} (O : IsOpenAtRest w first) where
   steps : (v : State) (moment : ℕ) (ms : List Moment) → Stage v → AreSteps v moment w.next_job ms →
       Stage (now v ms)
   steps v moment [] S h = S
-  steps v moment (m ∷ ms) S (event, outcome, happens, rest) =
-      (let r = steps v moment ms S rest in
+  steps v moment (m ∷ ms) S (event, outcome, happens, rest) = (let r = steps v moment ms S rest in
       on r.moves r.faults m.state r.low
       (steps-pack r.moves r.faults (moment + length ms) More m.state
       (subst (λ (u : State). Happens 8 (moment + length ms) u (Step w.next_job) More m.state) r.is happens)))
 
   -- a pack that runs alone
   pub pack-ends : (new : State) (moment : ℕ) (how : Answer) → RunsPack w moment how new → PackEnds w how new
-  pack-ends new moment how r =
-      (let b = r.begins in
+  pack-ends new moment how r = (let b = r.begins in
       let g : GoesOnTo r.begun (moment + 1) w.next_job how [] new =
       subst (λ k. GoesOnTo r.begun (moment + 1) k how [] new) b.2 r.goes_on in
       let z : Stage (now r.begun g.steps) = steps r.begun (moment + 1) g.steps

@@ -76,8 +76,7 @@ module _ (records : List Record) (how : Answer) (old new : Seen) (R : opens.IsOp
       a,
       each_image-mono new.disk _ (λ image. StandsActive image (other_area R.area) (packed records))
           (firm-left w (packed records) (other_area R.area) false false ran.last.disk_faults refl
-          (packed-some records) refl)
-          (subst (StandsForState new.disk) is ran.images),
+          (packed-some records) refl) (subst (StandsForState new.disk) is ran.images),
     ),
     cc,
   )
@@ -85,10 +84,8 @@ module _ (records : List Record) (how : Answer) (old new : Seen) (R : opens.IsOp
     (
       rose-before old.disk_faults A.faults new.disk_faults A.before (omega (arith, ran.faults_are, low))
           (subst (Rose A.faults) ran.faults_are rose),
-      each_image-mono new.disk _ (λ image. StandsActive image R.area records
-          ⊎ StandsActive image (other_area R.area) (packed records))
-          (λ image h. elim (image-left w records R.area switching true ran.last.disk_faults refl R.read.some
-          image h) [ inl s ↦ inl s | inr s ↦ inr s.1 ])
+      each_image-mono new.disk _ _ (λ image h. elim (image-left w records R.area switching true
+          ran.last.disk_faults refl R.read.some image h) [ inl s ↦ inl s | inr s ↦ inr s.1 ])
           (subst (StandsForState new.disk) is ran.images),
     ),
     cc,

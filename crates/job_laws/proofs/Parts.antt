@@ -1,5 +1,5 @@
 -- What a put leaves that stops before its last append.
-use Rattle.job_laws.proofs.Words.{◌≡◌, ℕ, zero, suc, ◌+◌, ◌*◌, ◌<◌, ◌≤◌, ◌⊎◌, List, [], ◌∷◌, ◌++◌, length, take, drop, Option, None, refl, ap, sym, subst, ◌∙◌, inl, inr, length-append, arith, IsSomeAnd, option_map, flat_map, range_with_len, each_take, each_image-mono, Goes, Provider, Setup, Record, PutStart, next_id, StandsActive, PutJob, Job, profiled, object_of, stripes_of, Action, WriteBody, SyncBody, WriteGate, SyncGate, Store, End, append_actions, on_each_provider, store_actions, remove_actions, actions_of, appends_left, IsSpelledKind, State, Doubt, setup_in, StandsPlain, StandsWithDoubt, StandsSwitched, chosen, beginning, now, Seen, provider_at, setup_in_effect, StoredOn, outside, AreSteps, after_begin, PartRan, PartRuns, PartLeft, IsOpenAtRest, IsJustOpened, moves_made, IsInOrder, put-list, put-later, appends_in, appends-move, moves-first, Made, MayName, RecordsAre, WalkedAt, with_job_at, take-append-add, made-split, walk-begin, runs}
+use Rattle.job_laws.proofs.Words.{◌≡◌, ℕ, zero, suc, ◌+◌, ◌*◌, ◌<◌, ◌≤◌, ◌⊎◌, List, [], ◌∷◌, ◌++◌, length, take, drop, Option, None, refl, ap, sym, subst, ◌∙◌, inl, inr, length-append, arith, IsSomeAnd, option_map, flat_map, range_with_len, each_take, each_image-mono, Goes, Provider, Setup, Record, PutStart, next_id, StandsActive, PutJob, Job, profiled, object_of, stripes_of, Action, WriteBody, SyncBody, WriteGate, SyncGate, Store, End, append_actions, on_each_provider, store_actions, remove_actions, actions_of, appends_left, IsSpelledKind, State, Doubt, setup_in, StandsPlain, StandsWithDoubt, StandsSwitched, chosen, beginning, now, Seen, provider_at, StoredOn, AreSteps, after_begin, PartRan, PartRuns, PartLeft, IsOpenAtRest, IsJustOpened, moves_made, put-list, put-later, appends_in, appends-move, moves-first, Made, MayName, RecordsAre, WalkedAt, with_job_at, take-append-add, made-split, walk-begin, runs}
 use Rattle.std.proofs.lemmas.List.FromFn.{length-map-range_with_len}
 use Rattle.command_defs.specs.Opens as opens
 use Rattle.job_laws.proofs.Runs.{WalkedOn, walk-on}
@@ -20,7 +20,6 @@ length-each f n h a zero = omega arith
 length-each f n h a (suc k) = (omega (
   arith,
   length-append (f a) (flat_map f (range_with_len (a + 1) k)),
-  h a,
   length-each f n h (a + 1) k,
 ))
 
@@ -53,10 +52,9 @@ module _ (start w : State) (name bytes : List ℕ) (profile : ℕ) (job : Job) (
     list = put-list (setup_in start) job name bytes W.kind_is
 
     place-is : job.place ≡ length append_actions + (length stores + 0)
-    place-is = (let e = length-stores (setup_in start) job bytes in
-        let p = ap (λ p. stripes_of (profiled (setup_in start) p) (length bytes) * (setup_in start).n)
+    place-is = (let p = ap (λ p. stripes_of (profiled (setup_in start) p) (length bytes) * (setup_in start).n)
         W.profile_is in
-        omega (arith, at, e, p))
+        omega (arith, length-stores (setup_in start) job bytes, p))
 
     left-is : drop job.place (actions_of (setup_in start) job) ≡ rest
     left-is = ap (λ n. drop n (actions_of (setup_in start) job)) place-is
@@ -80,8 +78,7 @@ module _ (start w : State) (name bytes : List ℕ) (profile : ℕ) (job : Job) (
         some = (omega (
           arith,
           ap appends_in left-is,
-          appends-move (remove_actions (setup_in start) job ++ End
-              ∷ []),
+          appends-move (remove_actions (setup_in start) job ++ End ∷ []),
         ))
 
         few : appends_left (setup_in start) job ≤ 1
@@ -95,11 +92,9 @@ module _ (start w : State) (name bytes : List ℕ) (profile : ℕ) (job : Job) (
 
     -- it has no append in flight, and no record is in doubt
     unmoved : (w.append ≡ None) × (w.doubt ≡ None)
-    unmoved = none-moving start O (PutJob name bytes) w job W
-        (moves-first (moves_made w.append job.number) WriteBody
-        (SyncBody ∷ WriteGate ∷ SyncGate ∷ (remove_actions (setup_in start) job ++ End ∷ []))
-        (subst (IsInOrder (moves_made w.append job.number))
-        (ap (λ (s : Setup). drop job.place (actions_of s job)) W.setup ∙ left-is)
+    unmoved = none-moving start O (PutJob name bytes) w job W (moves-first (moves_made w.append job.number)
+        WriteBody (SyncBody ∷ WriteGate ∷ SyncGate ∷ (remove_actions (setup_in start) job ++ End ∷ []))
+        (rw (ap (λ (s : Setup). drop job.place (actions_of s job)) W.setup ∙ left-is) at
         (W.sound.jobs job.number job (runs start O (PutJob name bytes) w job W)).order))
 
     pub unwritten : w.append ≡ None
@@ -112,20 +107,15 @@ module _ (start w : State) (name bytes : List ℕ) (profile : ℕ) (job : Job) (
     pub stored : (j : ℕ) → j < (setup_in start).n →
         Goes (StoredOn (object_of (profiled (setup_in start) profile) (next_id start.records)) bytes None ⊥ j)
         (start.providers j).held (w.providers j).held
-    stored j l =
-        (let a = made-split (with_job_at start (PutJob name bytes) profile job) append_actions (stores ++ [])
-        start.providers w.providers [] job.given
-        (subst (λ xs. Made (with_job_at start (PutJob name bytes) profile job) xs start.providers w.providers
-        [] job.given) made-is W.made) in
+    stored j l = (let a = made-split (with_job_at start (PutJob name bytes) profile job) append_actions
+        (stores ++ []) start.providers w.providers [] job.given (rw made-is at W.made) in
         let b = made-split (with_job_at start (PutJob name bytes) profile job) stores [] a.0 w.providers a.1
         job.given a.3 in
-        let first : a.0 ≡ start.providers =
-        moves-made (with_job_at start (PutJob name bytes) profile job) start.providers a.0 [] a.1 a.2 in
         all-stored (setup_in start) profile name bytes job (next_id start.records) [] start.providers w.providers
-        a.1 b.1 j W.profile_is (W.subject (omega (arith, at))) l
-        (subst (λ f. Made (with_job_at start (PutJob name bytes) profile job) stores f w.providers a.1 b.1) first
-        (subst (λ f. Made (with_job_at start (PutJob name bytes) profile job) stores a.0 f a.1 b.1)
-        (sym b.3.0) b.2)))
+        a.1 b.1 j W.profile_is (W.subject (omega arith)) l
+        (subst (λ f. Made (with_job_at start (PutJob name bytes) profile job) stores f w.providers a.1 b.1)
+        (moves-made (with_job_at start (PutJob name bytes) profile job) start.providers a.0 [] a.1 a.2)
+        (rw (← b.3.0) at b.2)))
 
     -- no provider was fetched from
     pub no-fetches : (j : ℕ) → (w.providers j).fetches ≡ (start.providers j).fetches
@@ -145,10 +135,9 @@ module _ (start w : State) (name bytes : List ℕ) (profile : ℕ) (job : Job) (
     others j l = made-keeps (with_job_at start (PutJob name bytes) profile job) j (λ p q. q ≡ p)
         (IsBelow (setup_in start).n) (λ p. refl) (λ p q r a b. b ∙ a)
         (λ a given now p q b c. absurd (called-below (with_job_at start (PutJob name bytes) profile job)
-        (setup_in start).n a given now j p q b l c))
-        (take job.place (actions_of (setup_in start) job)) start.providers w.providers [] job.given
-        (each_take (IsBelow (setup_in start).n) (actions_of (setup_in start) job) job.place
-        (below (setup_in start) job)) W.made
+        (setup_in start).n a given now j p q b l c)) (take job.place (actions_of (setup_in start) job))
+        start.providers w.providers [] job.given (each_take (IsBelow (setup_in start).n)
+        (actions_of (setup_in start) job) job.place (below (setup_in start) job)) W.made
 
 -- ---- the run, as its command tells it
 
@@ -194,8 +183,7 @@ module _ (records : List Record) (name bytes : List ℕ) (own : Option ℕ) (old
   records-are = started w ran.last name bytes its last.next O walked place
 
   kept : Keeps w ran.last
-  kept = subst (Keeps w) (sym ran.runs.last)
-      (part-keeps w O (PutJob name bytes) own 1 ran.runs.job ran.runs.begun
+  kept = rw (← ran.runs.last) at (part-keeps w O (PutJob name bytes) own 1 ran.runs.job ran.runs.begun
       (beginning w 1 (PutJob name bytes) own) ran.runs.steps ran.runs.begins first.1 steps)
 
   provider-is : (j : ℕ) → ran.last.providers j ≡ provider_at new.providers j
@@ -216,11 +204,8 @@ module _ (records : List Record) (name bytes : List ℕ) (own : Option ℕ) (old
           IsSomeAnd (option_map (λ (d : Doubt). d.entry) ran.last.doubt)
           (λ entry. StandsActive image R.area (entry ∷ ran.last.records)) →
           StandsActive image R.area (after_begin records name)
-      sure-stands (inl h) = subst (StandsActive image R.area) records-are h
-      sure-stands (inr h) = absurd (subst (λ (d : Option Doubt).
-          IsSomeAnd (option_map (λ (d : Doubt). d.entry) d)
-          (λ entry. StandsActive image R.area (entry ∷ ran.last.records)))
-          (sure w ran.last name bytes its last.next O walked place) h)
+      sure-stands (inl h) = (rw records-are at h)
+      sure-stands (inr h) = absurd (rw (sure w ran.last name bytes its last.next O walked place) at h)
 
   -- what a command tells of such a run leaves its start, and its stripes on every provider
   pub part-left : PartLeft R.area records name bytes own old new
@@ -228,23 +213,17 @@ module _ (records : List Record) (name bytes : List ℕ) (own : Option ℕ) (old
   part-left = record {
     faults = A.faults;
     before = A.before;
-    stored = λ j l. subst (λ (p : Provider). Goes
-        (StoredOn (object_of (profiled (setup_in_effect records) (chosen (setup_in_effect records) own))
-        (next_id records)) bytes None ⊥ j) (provider_at old.providers j).held p.held) (provider-is j)
-        (stored w ran.last name bytes its last.next O walked place j l);
+    stored = λ j l. (rw (provider-is j) at (stored w ran.last name bytes its last.next O walked place j l));
     fetches = λ j l. ap (λ (p : Provider). p.fetches) (sym (provider-is j))
         ∙ no-fetches w ran.last name bytes its last.next O walked place j;
     counts = record {
-      disk = (let a = walked.disk in let b = ran.faults_are in omega (arith, a, b));
-      stores = λ j. subst (λ (p : Provider). (provider_at old.providers j).store_faults ≤ p.store_faults)
-          (provider-is j) (rises w ran.last name bytes its last.next O walked place j).0;
-      others = λ j. subst (λ (p : Provider). (provider_at old.providers j).other_faults ≤ p.other_faults)
-          (provider-is j) (rises w ran.last name bytes its last.next O walked place j).1;
+      disk = omega (arith, walked.disk, ran.faults_are);
+      stores = λ j. (rw (provider-is j) at (rises w ran.last name bytes its last.next O walked place j).0);
+      others = λ j. (rw (provider-is j) at (rises w ran.last name bytes its last.next O walked place j).1);
     };
     others = λ j l. sym (provider-is j)
         ∙ others w ran.last name bytes its last.next O walked place j l;
     images = each_image-mono new.disk _ (λ image. StandsActive image R.area (after_begin records name))
         image-stands ran.images;
-    outside_text = subst (λ rs. option_map (outside R.area rs) new.disk ≡ option_map (outside R.area rs) old.disk)
-        journal-is ran.outside_text;
+    outside_text = rw journal-is at ran.outside_text;
   }

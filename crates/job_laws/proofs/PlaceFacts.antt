@@ -72,12 +72,11 @@ module _ (x : With) (repairs : x.kind ≡ RepairJob) (last : List Given) (j : �
   pub told-places : (ps : List Place) (acts : List Action) → FetchesAll x.setup ps acts →
       Each (IsToldBlock x repairs last j held) acts → Each (λ p. (gave p ≡ had p) ⊎ (gave p ≡ None)) ps
   told-places [] acts h t = tt
-  told-places (p ∷ ps) acts (more, rest, is, r) t =
-      (let a = each-parts (IsToldBlock x repairs last j held) (fetches_at x.setup p ++ more) rest
-      (subst (Each (IsToldBlock x repairs last j held)) is t) in
-      let b = each-parts (IsToldBlock x repairs last j held) (fetches_at x.setup p) more a.0 in (
-        each-at (IsToldBlock x repairs last j held) (λ k. Fetch k p.object p.stripe) 0 x.setup.n j b.0
-            (omega arith) (omega (arith, below)) refl,
+  told-places (p ∷ ps) acts (more, rest, is, r) t = (let a = each-parts (IsToldBlock x repairs last j held)
+      (fetches_at x.setup p ++ more) rest (rw is at t) in (
+        each-at (IsToldBlock x repairs last j held) (λ k. Fetch k p.object p.stripe) 0 x.setup.n j
+            (each-parts (IsToldBlock x repairs last j held) (fetches_at x.setup p) more a.0).0
+            (omega arith) (omega arith) refl,
         told-places ps rest r a.1,
       ))
 
@@ -85,16 +84,19 @@ module _ (x : With) (repairs : x.kind ≡ RepairJob) (last : List Given) (j : �
   pub lacks-places : (ps : List Place) (acts : List Action) → FetchesAll x.setup ps acts →
       missing gave had ps ≤ sum_by (lack_block x repairs last j held) acts
   lacks-places [] acts h = omega arith
-  lacks-places (p ∷ ps) acts (more, rest, is, r) =
-      (let a = ap (sum_by (lack_block x repairs last j held)) is
+  lacks-places (p ∷ ps) acts (more, rest, is, r) = (let a = ap (sum_by (lack_block x repairs last j held)) is
       ∙ sum_by-append (lack_block x repairs last j held) (fetches_at x.setup p ++ more) rest in
-      let b = sum_by-append (lack_block x repairs last j held) (fetches_at x.setup p) more in
       let c = range-hit j (lack_block x repairs last j held) (λ k. Fetch k p.object p.stripe) 0 x.setup.n
       (λ k m. cond_false (k == j) (lacks (block_given last p.object p.stripe k) (had p)) 0 (ne_eqb k j m))
       (omega arith) (omega (arith, below)) in
-      let d : lack_block x repairs last j held (Fetch j p.object p.stripe) ≡ lacks (gave p) (had p) =
-      cond_true (j == j) (lacks (gave p) (had p)) 0 (eq-eqb j j refl) in
-      let e = lacks-places ps rest r in omega (arith, a, b, c, d, e))
+      let e = lacks-places ps rest r in omega (
+        arith,
+        a,
+        sum_by-append (lack_block x repairs last j held) (fetches_at x.setup p) more,
+        c,
+        cond_true (j == j) (lacks (gave p) (had p)) 0 (eq-eqb j j refl),
+        e,
+      ))
 
 -- the blocks given of each place that was opened open to the symbols given of it
 pub gives-places : (x : With) (last : List Given) (ps : List Place) (acts : List Action) →
@@ -102,11 +104,10 @@ pub gives-places : (x : With) (last : List Given) (ps : List Place) (acts : List
     Each (λ (p : Place). GivesSymbols (object_made x p.object) p.stripe
     (blocks_given last x.setup.n p.object p.stripe) (symbols_given last p.object p.stripe)) ps
 gives-places x last [] acts h t = tt
-gives-places x last (p ∷ ps) acts (stores, rest, is, r) t =
-    (let a = each-parts (HasOpened x last) (open_actions x.setup p.object p.stripe ++ stores) rest
-    (subst (Each (HasOpened x last)) is t) in
-    let b = each-parts (HasOpened x last) (open_actions x.setup p.object p.stripe) stores a.0 in
-    let c = each-parts (HasOpened x last) (fetches_at x.setup p) (Work p.object p.stripe ∷ []) b.0 in
+gives-places x last (p ∷ ps) acts (stores, rest, is, r) t = (let a = each-parts (HasOpened x last)
+    (open_actions x.setup p.object p.stripe ++ stores) rest (rw is at t) in
+    let c = each-parts (HasOpened x last) (fetches_at x.setup p) (Work p.object p.stripe ∷ [])
+    (each-parts (HasOpened x last) (open_actions x.setup p.object p.stripe) stores a.0).0 in
     (c.1.0, gives-places x last ps rest r a.1))
 
 -- ---- where the work and the stores of a place stand
@@ -155,8 +156,7 @@ module _ (s : Setup) (job : Job) (p : Place) where
         (sym (let m : p.object ≡ o = cc in m)),
         (sym (let m : p.stripe ≡ t = cc in m)),
       )
-      at (suc r) e is g = absurd
-          (each_get IsStoreAt (rewrite_actions s job p.object p.stripe) r (Work o t)
+      at (suc r) e is g = absurd (each_get IsStoreAt (rewrite_actions s job p.object p.stripe) r (Work o t)
           (stores-only s job p.object p.stripe) g)
 
   -- before a store of a place stand its fetches, its work and the stores of providers before
@@ -172,10 +172,7 @@ module _ (s : Setup) (job : Job) (p : Place) where
             (each_map IsOpening (λ j. Fetch j p.object p.stripe) (upto s.n) (λ j. tt)) (tt, tt)) a.1)
         | inr b ↦ (
           q - length (open_actions s p.object p.stripe),
-          ap (λ n. take n (actions_at s job p))
-              (let e = b.0 in let f : q
-              ≡ length (open_actions s p.object p.stripe) + (q - length (open_actions s p.object p.stripe)) =
-              omega (arith, e) in f)
+          ap (λ n. take n (actions_at s job p)) (let e = b.0 in omega (arith, e))
               ∙ take-append-add (open_actions s p.object p.stripe) (rewrite_actions s job p.object p.stripe)
               (q - length (open_actions s p.object p.stripe)),
           b.1,
@@ -211,10 +208,9 @@ stores-range job n p a (suc m) l = each_append (IsStoreOf job n (p ∷ []))
 -- the stores among the actions of a place are of flagged providers, at this place
 pub stores-of : (s : Setup) (job : Job) (p : Place) → Each (IsStoreOf job s.n (p ∷ [])) (actions_at s job p)
 stores-of s job p = each_append (IsStoreOf job s.n (p ∷ [])) (open_actions s p.object p.stripe)
-    (rewrite_actions s job p.object p.stripe)
-    (each_append (IsStoreOf job s.n (p ∷ [])) (fetches_at s p) (Work p.object p.stripe ∷ [])
-    (each_map (IsStoreOf job s.n (p ∷ [])) (λ j. Fetch j p.object p.stripe) (upto s.n) (λ j. tt))
-    (tt, tt))
+    (rewrite_actions s job p.object p.stripe) (each_append (IsStoreOf job s.n (p ∷ [])) (fetches_at s p)
+    (Work p.object p.stripe ∷ [])
+    (each_map (IsStoreOf job s.n (p ∷ [])) (λ j. Fetch j p.object p.stripe) (upto s.n) (λ j. tt)) (tt, tt))
     (stores-range job s.n p 0 s.n (omega arith))
 
 -- the stores among the actions of places are of flagged providers, at these places
@@ -224,8 +220,7 @@ stores-all s job [] = tt
 stores-all s job (p ∷ ps) =
     each_append (IsStoreOf job s.n (p ∷ ps)) (actions_at s job p) (flat_map (actions_at s job) ps)
     (each_mono (IsStoreOf job s.n (p ∷ [])) (IsStoreOf job s.n (p ∷ ps)) (actions_at s job p)
-    (λ a h. store-wider job s.n (p ∷ []) (p ∷ ps) (λ q i. in_left (p ∷ []) ps q i) a h)
-    (stores-of s job p))
+    (λ a h. store-wider job s.n (p ∷ []) (p ∷ ps) (λ q i. in_left (p ∷ []) ps q i) a h) (stores-of s job p))
     (each_mono (IsStoreOf job s.n ps) (IsStoreOf job s.n (p ∷ ps)) (flat_map (actions_at s job) ps)
     (λ a h. store-wider job s.n ps (p ∷ ps) (λ q i. inr i) a h) (stores-all s job ps))
 
@@ -241,26 +236,20 @@ pub stored-at : (s : Setup) (job : Job) (j : ℕ) (ps : List Place) (p : Place) 
 stored-at s job j [] p l f i = absurd i
 stored-at s job j (q ∷ ps) p l f (inr i) = in_right (actions_at s job q) (flat_map (actions_at s job) ps)
     (Store j p.object p.stripe) (stored-at s job j ps p l f i)
-stored-at s job j (q ∷ ps) p l f (inl e) =
-    in_left (actions_at s job q) (flat_map (actions_at s job) ps) (Store j p.object p.stripe)
-    (subst (λ (z : Place). In (Store j z.object z.stripe) (actions_at s job q)) (sym e)
-    (in_right (open_actions s q.object q.stripe) (rewrite_actions s job q.object q.stripe)
+stored-at s job j (q ∷ ps) p l f (inl e) = in_left (actions_at s job q) (flat_map (actions_at s job) ps)
+    (Store j p.object p.stripe) (subst (λ (z : Place). In (Store j z.object z.stripe) (actions_at s job q))
+    (sym e) (in_right (open_actions s q.object q.stripe) (rewrite_actions s job q.object q.stripe)
     (Store j q.object q.stripe) (range 0 s.n (omega arith) (omega (arith, l)))))
   where
     range : (a m : ℕ) → a ≤ j → j < a + m →
         In (Store j q.object q.stripe)
         (flat_map (λ k. cond (job.flagged k) (Store k q.object q.stripe ∷ []) []) (range_with_len a m))
-    range a zero lo hi = absurd (omega (arith, lo, hi))
+    range a zero lo hi = omega arith
     range a (suc m) lo hi = elim (cases_eq a j) [
-      | inl same ↦ in_left (cond (job.flagged a) (Store a q.object q.stripe ∷ []) [])
-          (flat_map (λ k. cond (job.flagged k) (Store k q.object q.stripe ∷ []) []) (range_with_len (a + 1)
-          m)) (Store j q.object q.stripe) (subst (λ xs. In (Store j q.object q.stripe) xs)
+      | inl same ↦ in_left _ _ (Store j q.object q.stripe) (subst (λ xs. In (Store j q.object q.stripe) xs)
           (sym (cond_true (job.flagged a) (Store a q.object q.stripe ∷ []) [] (ap job.flagged same ∙ f)))
           (inl (cc)))
-      | inr apart ↦ in_right (cond (job.flagged a) (Store a q.object q.stripe ∷ []) [])
-          (flat_map (λ k. cond (job.flagged k) (Store k q.object q.stripe ∷ []) [])
-          (range_with_len (a + 1) m)) (Store j q.object q.stripe)
-          (range (a + 1) m (omega (arith, lo, apart)) (omega (arith, hi)))
+      | inr apart ↦ in_right _ _ (Store j q.object q.stripe) (range (a + 1) m (omega arith) (omega arith))
     ]
 
 -- a provider that is not flagged, and a place that is none of these, is stored on by none
@@ -270,8 +259,7 @@ no-store : (job : Job) (n : ℕ) (ps : List Place) (j o t : ℕ) →
 no-store job n ps j o t none (Store k p u) h e = none (let a : j ≡ k = (cc) in let b : o ≡ p = (cc) in
     let c : t ≡ u = (cc) in (
       ap job.flagged a ∙ h.1,
-      subst (λ (z : Place). In z ps)
-          (λ i. record { object = sym b i; stripe = sym c i }) h.2,
+      subst (λ (z : Place). In z ps) (λ i. record { object = sym b i; stripe = sym c i }) h.2,
     ))
 no-store job n ps j o t none a h e = cc
 

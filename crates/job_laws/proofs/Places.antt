@@ -16,8 +16,7 @@ actions_at s job p = open_actions s p.object p.stripe ++ rewrite_actions s job p
 
 -- the places of files in this order
 abbrev pub places_in : Setup → List File → List Place
-places_in s fs = flat_map
-    (λ (f : File). map (λ stripe. record { object = f.id; stripe = stripe })
+places_in s fs = flat_map (λ (f : File). map (λ stripe. record { object = f.id; stripe = stripe })
     (upto (stripes_of (profiled s f.profile) f.size))) fs
 
 stripes-places : (s : Setup) (job : Job) (id : ℕ) (stripes : List ℕ) →
@@ -35,8 +34,8 @@ files-places s w job [] h = refl
 files-places s w job (f ∷ fs) h =
     (let one : flat_map (λ stripe. open_actions s f.id stripe ++ rewrite_actions s job f.id stripe)
     (upto (stripes_of (profiled s f.profile) (length (w.bytes f.id)))) ≡ flat_map (actions_at s job)
-    (map (λ stripe. record { object = f.id; stripe = stripe }) (upto (stripes_of (profiled s f.profile)
-    f.size))) = cc (stripes-places s job f.id (upto (stripes_of (profiled s f.profile) f.size))) in
+    (map (λ stripe. record { object = f.id; stripe = stripe }) _) = cc
+    (stripes-places s job f.id (upto (stripes_of (profiled s f.profile) f.size))) in
     (λ i. one i ++ files-places s w job fs h.1 i)
     ∙ sym (flat_map-append (actions_at s job) (map (λ stripe. record { object = f.id; stripe = stripe })
     (upto (stripes_of (profiled s f.profile) f.size))) (places_in s fs)))
@@ -45,12 +44,11 @@ files-places s w job (f ∷ fs) h =
 pub repairs-places : (s : Setup) (w : State) (job : Job) (files : List File) → job.pinned ≡ pin_all w files →
     Each (λ (f : File). length (w.bytes f.id) ≡ f.size) files →
     repair_actions s job ≡ flat_map (actions_at s job) (places s files)
-repairs-places s w job files pinned h =
-    cc (
-      pinned-by_number w files,
-      files-places s w job (files_by_number files)
-          (each-by_number (λ (f : File). length (w.bytes f.id) ≡ f.size) files h),
-    )
+repairs-places s w job files pinned h = cc (
+  pinned-by_number w files,
+  files-places s w job (files_by_number files)
+      (each-by_number (λ (f : File). length (w.bytes f.id) ≡ f.size) files h),
+)
 
 -- ---- no place comes twice
 
@@ -81,8 +79,8 @@ places-above : (s : Setup) (w : State) (low : ℕ) (fs : List File) →
     AreAscending low (map (pinned_file w) fs) → Each (λ (p : Place). low ≤ p.object) (places_in s fs)
 places-above s w low [] h = tt
 places-above s w low (f ∷ fs) h = each_append (λ (p : Place). low ≤ p.object)
-    (map (λ stripe. record { object = f.id; stripe = stripe }) (upto (stripes_of (profiled s f.profile)
-    f.size))) (places_in s fs) (each_map (λ (p : Place). low ≤ p.object)
+    (map (λ stripe. record { object = f.id; stripe = stripe }) _) (places_in s fs)
+    (each_map (λ (p : Place). low ≤ p.object)
     (λ stripe. record { object = f.id; stripe = stripe }) (upto (stripes_of (profiled s f.profile) f.size))
     (λ t. h.0)) (each_mono (λ (p : Place). f.id + 1 ≤ p.object) (λ (p : Place). low ≤ p.object)
     (places_in s fs) (λ p l. (omega (arith, l))) (places-above s w (f.id + 1) fs h.1))
@@ -120,10 +118,9 @@ at-cond p j false = tt
 -- all actions of a place are at it
 pub at-place : (s : Setup) (job : Job) (p : Place) → Each (IsAt p) (actions_at s job p)
 at-place s job p = each_append (IsAt p) (open_actions s p.object p.stripe)
-    (rewrite_actions s job p.object p.stripe)
-    (each_append (IsAt p) (fetches_at s p) (Work p.object p.stripe ∷ [])
-    (each_map (IsAt p) (λ j. Fetch j p.object p.stripe) (upto s.n) (λ j. (refl, refl)))
-    ((refl, refl), tt))
+    (rewrite_actions s job p.object p.stripe) (each_append (IsAt p) (fetches_at s p)
+    (Work p.object p.stripe ∷ [])
+    (each_map (IsAt p) (λ j. Fetch j p.object p.stripe) (upto s.n) (λ j. (refl, refl))) ((refl, refl), tt))
     (each_flat (IsAt p) (λ j. cond (job.flagged j) (Store j p.object p.stripe ∷ []) []) (upto s.n)
     (λ j. at-cond p j (job.flagged j)))
 
@@ -136,10 +133,9 @@ else-none p q y n a = tt
 else-all : (s : Setup) (job : Job) (p : Place) (qs : List Place) → Each (IsElse p) qs →
     Each (IsNoneOf p.object p.stripe) (flat_map (actions_at s job) qs)
 else-all s job p [] h = tt
-else-all s job p (q ∷ qs) h =
-    each_append (IsNoneOf p.object p.stripe) (actions_at s job q) (flat_map (actions_at s job) qs)
-    (each_mono (IsAt q) (IsNoneOf p.object p.stripe) (actions_at s job q) (λ y a. else-none p q y h.0 a)
-    (at-place s job q)) (else-all s job p qs h.1)
+else-all s job p (q ∷ qs) h = each_append (IsNoneOf p.object p.stripe) (actions_at s job q)
+    (flat_map (actions_at s job) qs) (each_mono (IsAt q) (IsNoneOf p.object p.stripe) (actions_at s job q)
+    (λ y a. else-none p q y h.0 a) (at-place s job q)) (else-all s job p qs h.1)
 
 before-none : (p : Place) (x : Action) (ys : List Action) → IsAt p x → Each (IsNoneOf p.object p.stripe) ys →
     IsBefore x ys
@@ -203,34 +199,29 @@ ordered-place : (s : Setup) (job : Job) (p : Place) → AreOrdered (actions_at s
 ordered-place s job p =
     ordered-append (open_actions s p.object p.stripe) (rewrite_actions s job p.object p.stripe)
     (ordered-append (fetches_at s p) (Work p.object p.stripe ∷ []) (ordered-fetches p.object p.stripe 0 s.n)
-    (tt, tt)
-    (each_map (λ x. IsBefore x (Work p.object p.stripe ∷ [])) (λ j. Fetch j p.object p.stripe) (upto s.n)
-    (λ j. ((λ e. cc), tt))))
-    (ordered-stores (rewrite_actions s job p.object p.stripe) (stores-only s job p.object p.stripe))
-    (each_mono (IsAt p) (λ x. IsBefore x (rewrite_actions s job p.object p.stripe))
-    (open_actions s p.object p.stripe)
+    (tt, tt) (each_map (λ x. IsBefore x (Work p.object p.stripe ∷ [])) (λ j. Fetch j p.object p.stripe)
+    (upto s.n) (λ j. ((λ e. cc), tt)))) (ordered-stores (rewrite_actions s job p.object p.stripe)
+    (stores-only s job p.object p.stripe)) (each_mono (IsAt p) (λ x. IsBefore x
+    (rewrite_actions s job p.object p.stripe)) (open_actions s p.object p.stripe)
     (λ x a. before-none p x (rewrite_actions s job p.object p.stripe) a
     (each_mono IsStoreAt (IsNoneOf p.object p.stripe) (rewrite_actions s job p.object p.stripe)
     (λ y u. stores-none p.object p.stripe y u) (stores-only s job p.object p.stripe)))
     (each_append (IsAt p) (fetches_at s p) (Work p.object p.stripe ∷ [])
-    (each_map (IsAt p) (λ j. Fetch j p.object p.stripe) (upto s.n) (λ j. (refl, refl)))
-    ((refl, refl), tt)))
+    (each_map (IsAt p) (λ j. Fetch j p.object p.stripe) (upto s.n) (λ j. (refl, refl))) ((refl, refl), tt)))
 
 -- the actions of places that are apart, with what may follow, are in the order of a repair
 pub ordered-places : (s : Setup) (job : Job) (ps : List Place) (tail : List Action) → AreApart ps →
     AreOrdered tail → Each (λ y. (o t : ℕ) → IsNoneOf o t y) tail →
     AreOrdered (flat_map (actions_at s job) ps ++ tail)
 ordered-places s job [] tail a o n = o
-ordered-places s job (p ∷ ps) tail a o n =
-    subst AreOrdered (sym (append_assoc (actions_at s job p) (flat_map (actions_at s job) ps) tail))
-    (ordered-append (actions_at s job p) (flat_map (actions_at s job) ps ++ tail) (ordered-place s job p)
-    (ordered-places s job ps tail a.1 o n)
+ordered-places s job (p ∷ ps) tail a o n = rw (← (append_assoc (actions_at s job p)
+    (flat_map (actions_at s job) ps) tail)) at (ordered-append (actions_at s job p)
+    (flat_map (actions_at s job) ps ++ tail) (ordered-place s job p) (ordered-places s job ps tail a.1 o n)
     (each_mono (IsAt p) (λ x. IsBefore x (flat_map (actions_at s job) ps ++ tail)) (actions_at s job p)
     (λ x u. before-none p x (flat_map (actions_at s job) ps ++ tail) u
     (each_append (IsNoneOf p.object p.stripe) (flat_map (actions_at s job) ps) tail (else-all s job p ps a.0)
     (each_mono (λ y. (o t : ℕ) → IsNoneOf o t y) (IsNoneOf p.object p.stripe) tail
-    (λ y g. g p.object p.stripe) n)))
-    (at-place s job p)))
+    (λ y g. g p.object p.stripe) n))) (at-place s job p)))
 
 -- ---- where a list is cut
 

@@ -68,22 +68,16 @@ with-among : (q : ℕ) (f : File) (fs : List File) (id : ℕ) →
 with-among q f [] id h = refl
 with-among q f (g ∷ gs) id h = elim (cases_Bool (nat_lt f.id g.id)) [
   | inl t ↦ cc
-  | inr o ↦ cc (
-    cond_false (nat_lt f.id g.id) (f ∷ g ∷ gs) (g ∷ with_number f gs) o,
-    with-among q f gs id h.1,
-    swapped f g id (profile_among q gs id) h.0,
-  )
+  | inr o ↦ cc (with-among q f gs id h.1, swapped f g id (profile_among q gs id) h.0)
 ]
 
 by-number-among : (q : ℕ) (fs : List File) (id : ℕ) → AreOne fs →
     profile_among q (files_by_number fs) id ≡ profile_among q fs id
 by-number-among q [] id h = refl
-by-number-among q (f ∷ fs) id h =
-    cc (
-      with-among q f (files_by_number fs) id (each-by_number (λ (g : File). g.id ≡ f.id →
-          g.profile ≡ f.profile) fs h.0),
-      by-number-among q fs id h.1,
-    )
+by-number-among q (f ∷ fs) id h = cc (
+  with-among q f (files_by_number fs) id (each-by_number _ fs h.0),
+  by-number-among q fs id h.1,
+)
 
 -- the pins of files have their profiles
 pinned-among : (w : State) (q : ℕ) (fs : List File) (id : ℕ) →

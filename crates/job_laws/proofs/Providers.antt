@@ -6,9 +6,8 @@ use Rattle.std.proofs.Common.{map}
 abbrev pub Called : With → Action → List Given → List Given → ℕ → Provider → Provider → Type 0
 Called x (Store j object stripe) given now i p q =
     (i ≡ j) × Stores object stripe (block_stored x x.kind given j object stripe) p q × (now ≡ given)
-Called x (Fetch j object stripe) given now i p q =
-    (i ≡ j) × ((block : Option (List ℕ)) ×
-    Fetches (object_made x object).profile.size object stripe p block q ×
+Called x (Fetch j object stripe) given now i p q = (i ≡ j) × ((block : Option (List ℕ)) × Fetches
+    (object_made x object).profile.size object stripe p block q ×
     (now ≡ Fetched j object stripe block ∷ given))
 Called x (Ask j object round) given now i p q =
     (i ≡ j) × ((symbol : Option ℕ) × Asks (honest_answer (challenge_made x object round)) object p symbol q ×
@@ -50,12 +49,10 @@ pub made-keeps : (x : With) (i : ℕ) (R : Provider → Provider → Type 0) (P 
     Made x actions old new given now → R (old i) (new i)
 made-keeps x i R P same more step [] old new given now e m =
     subst (λ f. R (old i) (f i)) (sym m.0) (same (old i))
-made-keeps x i R P same more step (a ∷ actions) old new given now e (mid, so_far, did, rest) =
-    more (old i) (mid i) (new i)
-    (elim (did-at x a old mid given so_far i did) [
+made-keeps x i R P same more step (a ∷ actions) old new given now e (mid, so_far, did, rest) = more (old i)
+    (mid i) (new i) (elim (did-at x a old mid given so_far i did) [
       | inl s ↦ subst (R (old i)) (sym s) (same (old i))
-      | inr c ↦
-          step a given so_far (old i) (mid i) e.0 c
+      | inr c ↦ step a given so_far (old i) (mid i) e.0 c
     ])
     (made-keeps x i R P same more step actions mid new so_far now e.1 rest)
 

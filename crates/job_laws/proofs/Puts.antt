@@ -1,5 +1,5 @@
 -- What a put leaves whose job was the only one.
-use Rattle.job_laws.proofs.Words.{◌≡◌, ℕ, zero, suc, ◌+◌, ◌-◌, ◌<◌, ◌≤◌, ◌==◌, ◌&&◌, ◌⊎◌, List, [], ◌∷◌, ◌++◌, length, take, drop, Option, None, Some, refl, ap, sym, subst, ◌∙◌, inl, inr, arith, slice_get, option_map, flat_map, range_with_len, cases_Bool, cases_eq, cases_lt, eq-eqb, eqb-true, and_parts, and_from, append_assoc, Each, each_get, each_append, each_map, each_flat, each_take, drop-get, upto, columns, Object, stripes, Rose, Goes, Held, Provider, with_block, Stores, rose-before, Setup, Record, PutStart, File, version_of, file_of, next_id, PutJob, Pinned, Given, Job, profiled, object_of, stripes_of, Action, WriteBody, SyncBody, WriteGate, SyncGate, Store, Fetch, Ask, Work, Remove, End, append_actions, on_each_provider, store_actions, remove_actions, actions_of, appends_left, Answer, Ended, Entry, State, Doubt, setup_in, ended, chosen, done_record, next_action, Acts, cond_true, split_get, next_stands, StoredOn, PartlyStored, DroppedFrom, put_done, StoresFile, StoresAll, PutIsCut, StoresPart, PutLeaves, Leaves, Ran, ran_from, NoFetches, moves_made, IsInOrder, put_rest, put-list, put-first, put-later, appends_in, appends-append, moves-first, sound-accepted, With, Made, IsOpenAtRest, RecordsAre, with_job_at, made-split, Wrote, wrote, runs, first-body}
+use Rattle.job_laws.proofs.Words.{◌≡◌, ℕ, zero, suc, ◌+◌, ◌-◌, ◌<◌, ◌≤◌, ◌==◌, ◌&&◌, ◌⊎◌, List, [], ◌∷◌, ◌++◌, length, take, drop, Option, None, Some, refl, ap, sym, subst, ◌∙◌, inl, inr, arith, slice_get, option_map, flat_map, range_with_len, cases_Bool, cases_eq, cases_lt, eq-eqb, eqb-true, and_parts, and_from, append_assoc, Each, each_get, each_append, each_take, drop-get, upto, columns, Object, stripes, Rose, Goes, Held, Provider, with_block, Stores, rose-before, Setup, Record, PutStart, File, version_of, file_of, next_id, PutJob, Pinned, Given, Job, profiled, object_of, stripes_of, Action, WriteBody, SyncBody, WriteGate, SyncGate, Store, Fetch, Ask, Work, Remove, End, append_actions, on_each_provider, store_actions, remove_actions, actions_of, appends_left, Answer, Ended, Entry, State, Doubt, setup_in, ended, chosen, done_record, next_action, Acts, cond_true, split_get, next_stands, StoredOn, PartlyStored, DroppedFrom, put_done, StoresFile, StoresAll, PutIsCut, StoresPart, PutLeaves, Leaves, Ran, ran_from, NoFetches, moves_made, put_rest, put-list, put-first, put-later, appends_in, appends-append, moves-first, sound-accepted, With, Made, IsOpenAtRest, RecordsAre, with_job_at, made-split, Wrote, wrote, runs, first-body}
 use Rattle.machine_defs.specs.Answers as answer
 use Rattle.machine_defs.specs.Steps as step
 use Rattle.job_laws.proofs.Runs.{Ends}
@@ -11,7 +11,7 @@ use Rattle.job_laws.proofs.Leaving.{below, counts-rise, others-stay}
 use Rattle.job_laws.proofs.Gets.{take-within}
 use Rattle.job_laws.proofs.Removals.{left-within, row-hit, goes-same, goes-more, goes-map, goes-mono, IsWriting, writing-fetches, moves-made, dropped-over, OlderGoes, older-goes}
 use Rattle.job_laws.proofs.Endings.{listed, last-kept, move-ends, act-ends, first-doubted, Stand, two-stand, two-cut, end-left, end-sure, end-made}
-use Rattle.job_laws.proofs.Tails.{IsTail, tail-list}
+use Rattle.job_laws.proofs.Tails.{IsTail, NoStore, each-tail, each-stored}
 
 -- ---- blocks that are set
 
@@ -74,16 +74,14 @@ module _ (s : Setup) (profile : ℕ) (name bytes : List ℕ) (subject id : ℕ) 
   stores-go zero a old new given now below m = subst
       (λ (f : ℕ → Provider). Goes (StoresRange a 0) (old j).held (f j).held) (sym m.0)
       (goes-same (StoresRange a 0) (range-none a) (old j).held)
-  stores-go (suc n) a old new given now below m =
-      (let p = made-split x (stripe_stores a) (flat_map stripe_stores (range_with_len (a + 1) n)) old new
-      given now m in
-      let one = row-hit x (λ k. Store k id a) (λ k. Stores id a (columns made bytes k a))
-      (λ k b c g h did. did.0) j 0 s.n old p.0 given p.1 (omega arith) (omega (arith, below)) p.2 in
+  stores-go (suc n) a old new given now below m = (let p = made-split x (stripe_stores a)
+      (flat_map stripe_stores (range_with_len (a + 1) n)) old new given now m in
       goes-more (λ h k. k ≡ with_block id a (block a) h) (StoresRange (a + 1) n) (StoresRange a (suc n))
-      (λ h k r e R. range-more a n h r (subst (λ z. StoresRange (a + 1) n z r) e R)) (old j).held (p.0 j).held
+      (λ h k r e R. range-more a n h r (rw e at R)) (old j).held (p.0 j).held
       (new j).held
       (goes-map (λ h k. k ≡ with_block id a (block a) h) (with_block id a (block a)) (λ h. refl) (old j).held
-      (p.0 j).held one.held)
+      (p.0 j).held (row-hit x (λ k. Store k id a) (λ k. Stores id a (columns made bytes k a))
+      (λ k b c g h did. did.0) j 0 s.n old p.0 given p.1 (omega arith) (omega (arith, below)) p.2).held)
       (stores-go n (a + 1) p.0 new p.1 now below p.3))
 
   -- ---- some of them
@@ -108,8 +106,7 @@ module _ (s : Setup) (profile : ℕ) (name bytes : List ℕ) (subject id : ℕ) 
   partly-more p q r a b = record {
     stored = λ t. elim (b.stored t) [
       | inl same ↦ elim (a.stored t) [ inl still ↦ inl (same ∙ still) | inr set ↦ inr (same ∙ set) ]
-      | inr
-          set ↦ inr set
+      | inr set ↦ inr set
     ];
     others = λ o t n. b.others o t n ∙ a.others o t n;
   }
@@ -176,9 +173,8 @@ pub all-stored : (s : Setup) (profile : ℕ) (name bytes : List ℕ) (job : Job)
     now → Goes (StoredOn (object_of (profiled s profile) id) bytes None ⊥ j) (old j).held (new j).held
 all-stored s profile name bytes job id pinned old new given now j is drawn below m =
     goes-mono (StoresRange s profile name bytes job.subject id pinned j 0 count)
-    (StoredOn (object_of (profiled s profile) id) bytes None ⊥ j)
-    (λ h k R. whole-none s profile name bytes job.subject id count pinned j ⊥ h k k size R refl) (old j).held
-    (new j).held
+    (StoredOn (object_of (profiled s profile) id) bytes None ⊥ j) (λ h k R. whole-none s profile name bytes
+    job.subject id count pinned j ⊥ h k k size R refl) (old j).held (new j).held
     (stores-go s profile name bytes job.subject id pinned j count 0 old new given now below
     (subst (λ i. Made (x s profile name bytes job.subject id pinned j)
     (flat_map (λ t. on_each_provider s (λ k. Store k i t)) (upto count)) old new given now) drawn m))
@@ -191,27 +187,6 @@ all-stored s profile name bytes job id pinned old new given now j is drawn below
 
 -- ---- the list of a put
 
-abbrev NoStore : Action → Type 0
-NoStore (Store k o t) = ⊥
-NoStore action = Unit {0}
-
-none-stored : (s : Setup) (job : Job) → Each NoStore (append_actions ++ (remove_actions s job ++ End ∷ []))
-none-stored s job = (
-  tt,
-  (
-    tt,
-    (
-      tt,
-      (
-        tt,
-        each_append NoStore (remove_actions s job) (End ∷ [])
-            (each_flat NoStore (λ object. on_each_provider s (λ k. Remove k object)) job.older
-            (λ object. each_map NoStore (λ k. Remove k object) (upto s.n) (λ k. tt))) (tt, tt),
-      ),
-    ),
-  ),
-)
-
 -- all but the removals and the end
 abbrev put_front : Setup → Job → List ℕ → List Action
 put_front s job bytes = append_actions ++ (store_actions s job bytes ++ append_actions)
@@ -220,62 +195,32 @@ put-parts : (s : Setup) (job : Job) (name bytes : List ℕ) → job.kind ≡ Put
     actions_of s job ≡ put_front s job bytes ++ (remove_actions s job ++ End ∷ [])
 put-parts s job name bytes kind = cc (
   put-list s job name bytes kind,
-  append_assoc (store_actions s job bytes)
-      append_actions (remove_actions s job ++ End ∷ []),
+  append_assoc (store_actions s job bytes) append_actions (remove_actions s job ++ End ∷ []),
 )
 
 pub writing-put : (s : Setup) (job : Job) (name bytes : List ℕ) → job.kind ≡ PutJob name bytes →
     Each IsWriting (actions_of s job)
-writing-put s job name bytes kind = subst (Each IsWriting) (sym (put-list s job name bytes kind)) (
-  tt,
-  (
-    tt,
-    (
-      tt,
-      (
-        tt,
-        each_append IsWriting (store_actions s job bytes) _
-            (each_flat IsWriting (λ t. on_each_provider s (λ k. Store k job.subject t))
-            (upto (stripes_of (profiled s job.profile) (length bytes)))
-            (λ t. each_map IsWriting (λ k. Store k job.subject t) (upto s.n) (λ k. tt))) (
-              tt,
-              (
-                tt,
-                (
-                  tt,
-                  (
-                    tt,
-                    each_append IsWriting (remove_actions s job) (End ∷ [])
-                        (each_flat IsWriting (λ object. on_each_provider s (λ k. Remove k object)) job.older
-                        (λ object. each_map IsWriting (λ k. Remove k object) (upto s.n) (λ k. tt)))
-                        (tt, tt),
-                  ),
-                ),
-              ),
-            ),
-      ),
-    ),
-  ),
-)
+writing-put s job name bytes kind = rw (put-list s job name bytes kind)
+    (each_append IsWriting append_actions (put_rest s job bytes) (tt, (tt, (tt, (tt, tt))))
+    (each_append IsWriting (store_actions s job bytes) _ (each-stored IsWriting s job bytes (λ k t. tt))
+    (tt, (tt, (tt, (tt, each-tail IsWriting s job (λ k o. tt) tt))))))
 
 -- a store stands behind the first append, and before the second
 store-place : (s : Setup) (job : Job) (bytes : List ℕ) (p k o t : ℕ) →
     slice_get (append_actions ++ put_rest s job bytes) p ≡ Some (Store k o t) →
     (4 ≤ p) × (0 < appends_in (drop p (append_actions ++ put_rest s job bytes)))
-store-place s job bytes zero k o t h = cc
-store-place s job bytes (suc zero) k o t h = cc
-store-place s job bytes (suc (suc zero)) k o t h = cc
-store-place s job bytes (suc (suc (suc zero))) k o t h = cc
 store-place s job bytes (suc (suc (suc (suc q)))) k o t h = (
   omega arith,
-  elim (split_get (store_actions s job bytes) (append_actions ++ (remove_actions s job ++ End ∷ [])) q
-      (Store k o t) h) [
-        | inl a ↦ left-within (store_actions s job bytes) (append_actions ++ (remove_actions s job ++ End ∷
-            [])) q a.0 (omega (arith, appends-append append_actions (remove_actions s job ++ End ∷ [])))
-        | inr b ↦ absurd (each_get NoStore (append_actions ++ (remove_actions s job ++ End ∷ []))
-            (q - length (store_actions s job bytes)) (Store k o t) (none-stored s job) b.1)
-      ],
+  elim (split_get _ (append_actions ++ (remove_actions s job ++ End ∷ [])) q (Store k o t) h) [
+    | inl a ↦ left-within _ _ q a.0 (omega (
+      arith,
+      appends-append append_actions (remove_actions s job ++ End ∷ []),
+    ))
+    | inr b ↦ absurd (each_get NoStore (append_actions ++ (remove_actions s job ++ End ∷ []))
+        _ _ (tt, (tt, (tt, (tt, each-tail NoStore s job (λ k o. tt) tt)))) b.1)
+  ],
 )
+store-place s job bytes _ k o t h = cc
 
 -- ---- the put
 
@@ -304,8 +249,7 @@ module _ (start new : State) (name bytes : List ℕ) (own : Option ℕ) (how : A
   ends-with : done_record (version_of start.records) (next_id start.records) (length bytes) E.job.profile
       ≡ put_done start.records (length bytes) own
   unfolding setup_in
-  ends-with = ap (λ p. done_record (version_of start.records) (next_id start.records) (length bytes) p)
-      E.walked.profile_is
+  ends-with = cc
 
   nothing-heard : heard ≡ []
   nothing-heard = cc
@@ -317,26 +261,9 @@ module _ (start new : State) (name bytes : List ℕ) (own : Option ℕ) (how : A
 
   storing-front : Each (IsStoring (setup_in start) its name bytes E.job.subject E.job.subject [] 0)
       (put_front (setup_in start) E.job bytes)
-  storing-front = (
-    tt,
-    (
-      tt,
-      (
-        tt,
-        (
-          tt,
-          each_append (IsStoring (setup_in start) its name bytes E.job.subject E.job.subject [] 0)
-              (store_actions (setup_in start) E.job bytes) append_actions
-              (each_flat (IsStoring (setup_in start) its name bytes E.job.subject E.job.subject [] 0)
-              (λ t. on_each_provider (setup_in start) (λ k. Store k E.job.subject t))
-              (upto (stripes_of (profiled (setup_in start) E.job.profile) (length bytes)))
-              (λ t. each_map (IsStoring (setup_in start) its name bytes E.job.subject E.job.subject [] 0)
-              (λ k. Store k E.job.subject t) (upto (setup_in start).n) (λ k. refl)))
-              (tt, (tt, (tt, (tt, tt)))),
-        ),
-      ),
-    ),
-  )
+  storing-front = each_append _ append_actions _ (tt, (tt, (tt, (tt, tt))))
+      (each_append _ (store_actions (setup_in start) E.job bytes) append_actions
+      (each-stored _ (setup_in start) E.job bytes (λ k t. refl)) (tt, (tt, (tt, (tt, tt)))))
 
   storing-taken : (action : Action) → E.action ≡ action → (action ≡ End → ⊥) → (IsTail action → ⊥) →
       Each (IsStoring (setup_in start) its name bytes E.job.subject (next_id start.records) [] 0)
@@ -344,9 +271,8 @@ module _ (start new : State) (name bytes : List ℕ) (own : Option ℕ) (how : A
   storing-taken action at n m = elim (cases_eq E.job.place 0) [
     | inl first ↦ cc
     | inr later ↦ subst (λ i. Each (IsStoring (setup_in start) its name bytes E.job.subject i [] 0)
-        (take E.job.place (actions_of (setup_in start) E.job))) (subject-is (omega (arith, later)))
-        (subst (λ xs. Each (IsStoring (setup_in start) its name bytes E.job.subject E.job.subject [] 0)
-        (take E.job.place xs)) (sym (put-parts (setup_in start) E.job name bytes E.walked.kind_is)) front)
+        (take E.job.place (actions_of (setup_in start) E.job))) (subject-is (omega arith))
+        (rw (← (put-parts (setup_in start) E.job name bytes E.walked.kind_is)) at front)
   ]
     where
       front : Each (IsStoring (setup_in start) its name bytes E.job.subject E.job.subject [] 0)
@@ -357,25 +283,21 @@ module _ (start new : State) (name bytes : List ℕ) (own : Option ℕ) (how : A
             put-parts (setup_in start) E.job name bytes E.walked.kind_is,
             listed E action at n,
           ))) [
-            | inl a ↦ subst (Each (IsStoring (setup_in start) its name bytes E.job.subject E.job.subject []
-                0)) (sym (take-within (put_front (setup_in start) E.job bytes)
-                (remove_actions (setup_in start) E.job ++ End ∷ []) E.job.place (omega arith)))
+            | inl a ↦ (rw (← (take-within (put_front (setup_in start) E.job bytes)
+                (remove_actions (setup_in start) E.job ++ End ∷ []) E.job.place (omega arith))) at
                 (each_take (IsStoring (setup_in start) its name bytes E.job.subject E.job.subject [] 0)
-                (put_front (setup_in start) E.job bytes) E.job.place storing-front)
+                (put_front (setup_in start) E.job bytes) E.job.place storing-front))
             | inr b ↦ absurd (m (each_get IsTail (remove_actions (setup_in start) E.job ++ End ∷ [])
                 (E.job.place - length (put_front (setup_in start) E.job bytes)) action
-                (tail-list (setup_in start) E.job) b.1))
+                (each-tail IsTail (setup_in start) E.job (λ k o. tt) tt) b.1))
           ]
 
   stores-part : (action : Action) → E.action ≡ action → (action ≡ End → ⊥) → (IsTail action → ⊥) →
       StoresPart ran own bytes
   unfolding setup_in
-  stores-part action at n m =
-      λ j l. subst (λ h. Goes (PartlyStored stored_as bytes j)
-      (start.providers j).held h) (sym (last-kept E j).0)
-      (partly-goes (setup_in start) its name bytes E.job.subject (next_id start.records) [] j
-      (take E.job.place (actions_of (setup_in start) E.job)) start.providers E.before.providers
-      [] E.job.given (storing-taken action at n m) E.walked.made)
+  stores-part action at n m = λ j l. (rw (← (last-kept E j).0) at (partly-goes (setup_in start) its name bytes
+      E.job.subject (next_id start.records) [] j (take E.job.place (actions_of (setup_in start) E.job))
+      start.providers E.before.providers [] E.job.given (storing-taken action at n m) E.walked.made))
 
   abbrev Gives : Answer → Type 0
   Gives a = PutLeaves ran own name bytes a
@@ -383,15 +305,10 @@ module _ (start new : State) (name bytes : List ℕ) (own : Option ℕ) (how : A
   -- ---- a move of an append that failed
 
   unmoved-stores : Each IsUnmoved (store_actions (setup_in start) E.job bytes)
-  unmoved-stores = each_flat IsUnmoved (λ t. on_each_provider (setup_in start) (λ k. Store k E.job.subject t))
-      (upto (stripes_of (profiled (setup_in start) E.job.profile) (length bytes)))
-      (λ t. each_map IsUnmoved (λ k. Store k E.job.subject t) (upto (setup_in start).n) (λ k. (λ m. m)))
+  unmoved-stores = each-stored IsUnmoved (setup_in start) E.job bytes (λ k t m. m)
 
   unmoved-tail : Each IsUnmoved (remove_actions (setup_in start) E.job ++ End ∷ [])
-  unmoved-tail = each_append IsUnmoved (remove_actions (setup_in start) E.job) (End ∷ [])
-      (each_flat IsUnmoved (λ object. on_each_provider (setup_in start) (λ k. Remove k object)) E.job.older
-      (λ object. each_map IsUnmoved (λ k. Remove k object) (upto (setup_in start).n) (λ k. (λ m. m))))
-      ((λ m. m), tt)
+  unmoved-tail = each-tail IsUnmoved (setup_in start) E.job (λ k o m. m) (λ m. m)
 
   module _ (action : Action) (at : E.action ≡ action) (n : action ≡ End → ⊥) (move : IsMove action) where
     list : actions_of (setup_in start) E.job
@@ -410,8 +327,7 @@ module _ (start new : State) (name bytes : List ℕ) (own : Option ℕ) (how : A
         (setup_in start) E.job
         bytes ++ (append_actions ++ (remove_actions (setup_in start) E.job ++ End ∷ [])))))
         start.providers E.before.providers [] E.job.given
-    made-so-far = subst (λ xs. Made put_with (take E.job.place xs) start.providers E.before.providers
-        [] E.job.given) list E.walked.made
+    made-so-far = rw list at E.walked.made
 
     untouched : appends_left (setup_in E.before) E.job ≡ 2 → E.before.providers ≡ start.providers
     untouched two = elim (cases_lt E.job.place 4) [
@@ -442,10 +358,7 @@ module _ (start new : State) (name bytes : List ℕ) (own : Option ℕ) (how : A
 
     stores-all : 4 ≤ E.job.place → new.providers ≡ E.before.providers → StoresAll ran own bytes
     unfolding setup_in
-    stores-all l same j below =
-        subst (λ (f : ℕ → Provider). Goes
-        (StoredOn stored_as bytes None ⊥ j)
-        (start.providers j).held (f j).held) (sym same) (all-goes l j below)
+    stores-all l same j below = rw (← same) at (all-goes l j below)
 
     doubt-second : appends_left (setup_in E.before) E.job ≡ 1 →
         (F : Faults start O (PutJob name bytes) E.before E.job E.walked new) →
@@ -455,8 +368,7 @@ module _ (start new : State) (name bytes : List ℕ) (own : Option ℕ) (how : A
       | inr (d, in_doubt, writes) ↦
           elim (wrote start O (PutJob name bytes) E.before E.job E.walked d.entry F.left writes) [
             | Wrote.first l is entry ↦ absurd (omega (arith, l, one))
-            | Wrote.second l is sec ↦
-                inr (ap (option_map (λ (z : Doubt). z.entry)) in_doubt
+            | Wrote.second l is sec ↦ inr (ap (option_map (λ (z : Doubt). z.entry)) in_doubt
                 ∙ ap Some (sec ∙ ends-with))
           ]
     ]
@@ -500,9 +412,8 @@ module _ (start new : State) (name bytes : List ℕ) (own : Option ℕ) (how : A
     calm = (none-moving start O (PutJob name bytes) E.before E.job E.walked
         (moves-first (moves_made E.before.append E.job.number) (Store k o t)
         (drop (E.job.place + 1) (actions_of (setup_in E.before) E.job))
-        (subst (IsInOrder (moves_made E.before.append E.job.number))
-        (drop-get (actions_of (setup_in E.before) E.job) E.job.place (Store k o t)
-        (next_stands E.before E.job (Store k o t) (E.next ∙ ap Some at) (λ e. cc)))
+        (rw (drop-get (actions_of (setup_in E.before) E.job) E.job.place (Store k o t)
+        (next_stands E.before E.job (Store k o t) (E.next ∙ ap Some at) (λ e. cc))) at
         (E.walked.sound.jobs E.job.number E.job
         (runs start O (PutJob name bytes) E.before E.job E.walked)).order))).1
 
@@ -513,14 +424,12 @@ module _ (start new : State) (name bytes : List ℕ) (own : Option ℕ) (how : A
     store-ends : (a : Answer) → Acts E.before E.job (Store k o t) (Ended a) new → Gives a
     unfolding setup_in
     store-ends (answer.ProviderFault i) (same, (p, made, is)) = (
-      subst (λ z. z < (setup_in start).n) (sym same) below-n,
-      subst (λ z. Rose (start.providers z).store_faults (new.providers z).store_faults) (sym same)
-          (rose-before (start.providers k).store_faults (E.before.providers k).store_faults
-          (new.providers k).store_faults
-          (made-rises put_with (take E.job.place (actions_of (setup_in start) E.job)) start.providers
-          E.before.providers [] E.job.given k E.walked.made).0
-          (let f = made.counts.store_faults in omega (arith, f, hit))
-          (subst (Rose (E.before.providers k).store_faults) (sym hit) made.cause)),
+      (rw (← same) at below-n),
+      (rw (← same) at (rose-before (start.providers k).store_faults (E.before.providers k).store_faults
+          (new.providers k).store_faults (made-rises put_with
+          (take E.job.place (actions_of (setup_in start) E.job)) start.providers E.before.providers []
+          E.job.given k E.walked.made).0 (let f = made.counts.store_faults in omega (arith, f, hit))
+          (subst (Rose (E.before.providers k).store_faults) (sym hit) made.cause))),
       record {
         after = ap (λ (v : State). v.records) is ∙ started;
         sure = ap (λ (v : State). option_map (λ (d : Doubt). d.entry) v.doubt) is
@@ -563,8 +472,7 @@ module _ (start new : State) (name bytes : List ℕ) (own : Option ℕ) (how : A
     stored =
         (let a = made-split put_with append_actions (put_rest (setup_in start) E.job bytes) start.providers
         E.before.providers [] E.job.given
-        (subst (λ xs. Made put_with xs start.providers E.before.providers [] E.job.given)
-        (put-list (setup_in start) E.job name bytes E.walked.kind_is) (end-made O E.walked refl last)) in
+        (rw (put-list (setup_in start) E.job name bytes E.walked.kind_is) at (end-made O E.walked refl last)) in
         let b = made-split put_with (store_actions (setup_in start) E.job bytes)
         (append_actions ++ (remove_actions (setup_in start) E.job ++ End ∷ [])) a.0 E.before.providers a.1
         E.job.given a.3 in
@@ -572,19 +480,18 @@ module _ (start new : State) (name bytes : List ℕ) (own : Option ℕ) (how : A
         E.before.providers b.1 E.job.given b.3 in
         let d = made-split put_with (remove_actions (setup_in start) E.job)
         (End ∷ []) c.0 E.before.providers c.1 E.job.given c.3 in
-        let first : a.0 ≡ start.providers = moves-made put_with start.providers a.0 [] a.1 a.2 in
         let second : c.0 ≡ b.0 = moves-made put_with b.0 c.0 b.1 c.1 c.2 in
         let end : E.before.providers ≡ d.0 = d.3.3.0 ∙ d.3.2.0 in
         record {
           mid = b.0;
           given = a.1;
           now = b.1;
-          stores = subst (λ f. Made put_with (store_actions (setup_in start) E.job bytes) f b.0 a.1 b.1) first
-              b.2;
+          stores = subst (λ f. Made put_with (store_actions (setup_in start) E.job bytes) f b.0 a.1 b.1)
+              (moves-made put_with start.providers a.0 [] a.1 a.2) b.2;
           later = c.1;
           last = d.1;
-          removes = subst (λ f. Made put_with (remove_actions (setup_in start) E.job) b.0 f c.1 d.1) (sym end)
-              (subst (λ f. Made put_with (remove_actions (setup_in start) E.job) f d.0 c.1 d.1) second d.2);
+          removes = rw (← end) at (subst (λ f. Made put_with (remove_actions (setup_in start) E.job) f d.0 c.1
+              d.1) second d.2);
         })
 
     drawn : E.job.subject ≡ next_id start.records
@@ -611,20 +518,17 @@ module _ (start new : State) (name bytes : List ℕ) (own : Option ℕ) (how : A
         Goes (StoredOn stored_as bytes o rose j)
         (start.providers j).held q.held
     stored-on None j p q apart rose up range older =
-        subst (Goes (StoredOn stored_as bytes None rose j)
-        (start.providers j).held) (sym older)
-        (goes-mono (StoresRange (setup_in start) its name bytes E.job.subject (next_id start.records)
-        [] j 0 count) (StoredOn stored_as bytes None rose j)
+        (rw (← older) at (goes-mono (StoresRange (setup_in start) its name bytes E.job.subject
+        (next_id start.records) [] j 0 count) (StoredOn stored_as bytes None rose j)
         (λ h k R. whole-none (setup_in start) its name bytes E.job.subject (next_id start.records) count
-        [] j rose h k k count-same R refl) (start.providers j).held p.held range)
+        [] j rose h k k count-same R refl) (start.providers j).held p.held range))
     stored-on (Some f) j p q apart rose up range older =
-        goes-more
-        (StoresRange (setup_in start) its name bytes E.job.subject (next_id start.records) [] j 0 count)
-        (DroppedFrom f.id (Rose p.other_faults q.other_faults)) (StoredOn stored_as bytes (Some f) rose j)
-        (λ h k r R D. whole-some (setup_in start) its name bytes E.job.subject (next_id start.records) count
-        [] j rose f h k r count-same (apart f refl) R
-        (dropped-over f.id (Rose p.other_faults q.other_faults) rose k r up D))
-        (start.providers j).held p.held q.held range older
+        goes-more (StoresRange (setup_in start) its name bytes E.job.subject (next_id start.records) [] j 0
+        count) (DroppedFrom f.id (Rose p.other_faults q.other_faults)) (StoredOn stored_as bytes (Some f) rose
+        j) (λ h k r R D. whole-some (setup_in start) its name bytes E.job.subject (next_id start.records)
+        count [] j rose f h k r count-same (apart f refl) R
+        (dropped-over f.id (Rose p.other_faults q.other_faults) rose k r up D)) (start.providers j).held
+        p.held q.held range older
 
     stores-file : new.providers ≡ E.before.providers → StoresFile ran own name bytes
     unfolding setup_in
@@ -634,11 +538,7 @@ module _ (start new : State) (name bytes : List ℕ) (own : Option ℕ) (how : A
         stored.mid stored.given stored.now j stored.stores in
         let more = made-rises put_with (remove_actions (setup_in start) E.job) stored.mid E.before.providers
         stored.later stored.last j stored.removes in
-        subst (λ (q : Provider). Goes
-        (StoredOn stored_as bytes (file_of start.records name)
-        (Rose (start.providers j).other_faults q.other_faults) j) (start.providers j).held q.held)
-        (sym same)
-        (stored-on (file_of start.records name) j (stored.mid j) (E.before.providers j)
+        (rw (← same) at (stored-on (file_of start.records name) j (stored.mid j) (E.before.providers j)
         (λ f e g. (let m : f.id < next_id start.records =
         ((sound-accepted start.records O.rest.accepted).file name f e).0 in omega (arith, m, g)))
         (Rose (start.providers j).other_faults (E.before.providers j).other_faults)
@@ -647,7 +547,7 @@ module _ (start new : State) (name bytes : List ℕ) (own : Option ℕ) (how : A
         (range-go j l)
         (older-goes put_with start (setup_in start) E.job
         (file_of start.records name) stored.mid E.before.providers stored.later stored.last j
-        O.rest.idle.0 (E.walked.older no-append) l stored.removes)))
+        O.rest.idle.0 (E.walked.older no-append) l stored.removes))))
 
     whole-records : E.before.records ≡ put_done start.records (length bytes) own ∷ PutStart
         (next_id start.records) name ∷ start.records
@@ -659,9 +559,8 @@ module _ (start new : State) (name bytes : List ℕ) (own : Option ℕ) (how : A
             (next_id start.records) name ∷ start.records
         by_records rs e (RecordsAre.none l is) = absurd (omega (arith, no-append, l))
         by_records rs e (RecordsAre.one l is) = absurd (omega (arith, no-append, l))
-        by_records rs e (RecordsAre.two entry l sec is) = e
-            ∙ (is ∙ ap (λ (r : Record). r ∷ PutStart (next_id start.records) name ∷ start.records)
-            (sec ∙ ends-with))
+        by_records rs e (RecordsAre.two entry l sec is) = cc ((is ∙
+            ap (λ (r : Record). r ∷ PutStart (next_id start.records) name ∷ start.records) (sec ∙ ends-with)))
 
   put-ends : (a : Answer) → E.action ≡ End → step.Ends E.before E.job (PutJob name bytes) a →
       new ≡ ended E.before E.job → Gives a

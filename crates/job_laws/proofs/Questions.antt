@@ -54,8 +54,7 @@ pub each-question : (s : Setup) (P : File → Type 0) (fs : List File) → Each 
 each-question s P [] h = tt
 each-question s P (f ∷ fs) h = each_append (λ (q : Question). P q.file)
     (map (λ round. record { file = f; round = round }) (rounds_of (profiled s f.profile) f.size))
-    (questions_in s fs)
-    (each_map (λ (q : Question). P q.file) (λ round. record { file = f; round = round })
+    (questions_in s fs) (each_map (λ (q : Question). P q.file) (λ round. record { file = f; round = round })
     (rounds_of (profiled s f.profile) f.size) (λ r. h.0)) (each-question s P fs h.1)
 
 -- ---- the size of a pinned file
@@ -65,8 +64,7 @@ size-found : (w : State) (fs : List File) (g : File) → In g fs →
 size-found w [] g i = absurd i
 size-found w (f ∷ fs) g i = elim (cases_Bool (f.id == g.id)) [
   | inl t ↦ cc (
-    cond_true (f.id == g.id) (length (w.bytes f.id)) (pinned_size (map (pinned_file w) fs) g.id)
-        t,
+    cond_true (f.id == g.id) (length (w.bytes f.id)) (pinned_size (map (pinned_file w) fs) g.id) t,
     eqb-true f.id g.id t,
   )
   | inr o ↦ cond_false (f.id == g.id) (length (w.bytes f.id)) (pinned_size (map (pinned_file w) fs) g.id) o
@@ -104,10 +102,9 @@ module _ (x : With) (now : List Given) (held : Held) (j n : ℕ) (below : j < n)
       Each (λ q. (gave q ≡ honest q) ⊎ (gave q ≡ None)) qs
   told-questions [] fits h = tt
   told-questions (q ∷ qs) fits h =
-      (let p = each-parts (IsTold x now held j) (asks_one n q) (asks_of n qs) h in
-      let one = each-at (IsTold x now held j) (λ k. Ask k q.file.id q.round) 0 n j p.0 (omega arith)
-      (omega (arith, below)) refl in (
-        elim one [ inl e ↦ inl (cc) | inr e ↦ inr (fits.0.0 ∙ e) ],
+      (let p = each-parts (IsTold x now held j) (asks_one n q) (asks_of n qs) h in (
+        elim (each-at (IsTold x now held j) (λ k. Ask k q.file.id q.round) 0 n j p.0 (omega arith)
+            (omega (arith, below)) refl) [ inl e ↦ inl (cc) | inr e ↦ inr (fits.0.0 ∙ e) ],
         told-questions qs fits.1 p.1,
       ))
 
@@ -115,13 +112,10 @@ module _ (x : With) (now : List Given) (held : Held) (j n : ℕ) (below : j < n)
   pub lacks-questions : (qs : List Question) → Each Fits qs →
       sum_by (lack_at x now held j) (asks_of n qs) ≡ missing gave honest qs
   lacks-questions [] fits = refl
-  lacks-questions (q ∷ qs) fits =
-      (let a = sum_by-append (lack_at x now held j) (asks_one n q) (asks_of n qs) in
-      let b = range-hit j (lack_at x now held j) (λ k. Ask k q.file.id q.round) 0 n (λ k m. cond_false
-      (k == j) _ 0 (ne_eqb k j m)) (omega arith) (omega (arith, below)) in
-      let c : lack_at x now held j (Ask j q.file.id q.round) ≡ lacks (gave q) (honest q) =
-      cc (cond_true (j == j) (lacks (answer_given now q.file.id q.round j)
-      (honest_answer (challenge_made x q.file.id q.round) (held q.file.id))) 0 (eq-eqb j j refl)) in
-      let r = lacks-questions qs fits.1 in
-      a ∙ (let d : sum_by (lack_at x now held j) (asks_one n q) ≡ lacks (gave q) (honest q) = b ∙ c in
-      (λ i. d i + r i)))
+  lacks-questions (q ∷ qs) fits = ((sum_by-append (lack_at x now held j) (asks_one n q) (asks_of n qs)) ∙
+      (let d : sum_by (lack_at x now held j) (asks_one n q) ≡ lacks (gave q) (honest q)
+      = (range-hit j (lack_at x now held j) (λ k. Ask k q.file.id q.round) 0 n (λ k m. cond_false
+      (k == j) _ 0 (ne_eqb k j m)) (omega arith) (omega (arith, below))) ∙
+      (cc (cond_true (j == j) (lacks (answer_given now q.file.id q.round j)
+      (honest_answer (challenge_made x q.file.id q.round) (held q.file.id))) 0 (eq-eqb j j refl))) in
+      (λ i. d i + (lacks-questions qs fits.1) i)))

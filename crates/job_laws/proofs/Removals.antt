@@ -30,13 +30,11 @@ module _ (x : With) (f : ℕ → Action) (call : ℕ → Provider → Provider �
       Made x (map f (range_with_len a m)) old new given now → call j (old j) (new j)
   row-hit j a zero old new given now l u m = absurd (omega (arith, l, u))
   row-hit j a (suc m) old new given now l u (mid, so_far, did, rest) = elim (cases_eq a j) [
-    | inl e ↦ subst (λ q. call j (old j) q)
-        (sym (row-miss j (a + 1) m mid new so_far now (omega (arith, e)) rest))
+    | inl e ↦ (rw (← (row-miss j (a + 1) m mid new so_far now (omega (arith, e)) rest)) at
         (subst (λ k. call k (old k) (mid k)) e
-        (call-hit old a (call a) mid (calls a old mid given so_far did)))
-    | inr n ↦ subst (λ p. call j p (new j))
-        (call-miss old a (call a) mid j n (calls a old mid given so_far did))
-        (row-hit j (a + 1) m mid new so_far now (omega (arith, l, n)) (omega (arith, u)) rest)
+        (call-hit old a (call a) mid (calls a old mid given so_far did))))
+    | inr n ↦ (rw (call-miss old a (call a) mid j n (calls a old mid given so_far did)) at
+        (row-hit j (a + 1) m mid new so_far now (omega (arith, l, n)) (omega (arith, u)) rest))
   ]
 
 -- ---- what is told
@@ -162,11 +160,9 @@ older-goes x start s job older old new given now j idle is below m = by_file old
   where
     list : (os : List ℕ) → job.older ≡ os →
         Made x (flat_map (λ object. on_each_provider s (λ k. Remove k object)) os) old new given now
-    list os e = subst (λ zs. Made x (flat_map (λ object. on_each_provider s (λ k. Remove k object)) zs) old
-        new given now) e m
+    list os e = (rw e at m)
 
     by_file : (o : Option File) → job.older ≡ removable start o → OlderGoes o (old j) (new j)
     by_file None e = cc ((list [] e).0)
     by_file (Some f) e = removals-go x f.id s.n old new given now j below
-        (subst (λ ys. Made x ys old new given now) (append-nil (on_each_provider s (λ k. Remove k f.id)))
-        (list (f.id ∷ []) (cc)))
+        (rw (append-nil (on_each_provider s (λ k. Remove k f.id))) at (list (f.id ∷ []) (cc)))

@@ -1,16 +1,17 @@
 -- What a repair leaves whose job was the only one.
-use Rattle.job_laws.proofs.Words.{◌≡◌, ℕ, zero, suc, ◌-◌, ◌<◌, ◌≤◌, ◌==◌, ◌⊎◌, Bool, true, false, List, [], ◌∷◌, ◌++◌, length, take, drop, Option, None, Some, refl, ap, sym, subst, ◌∙◌, inl, inr, arith, All, Contains, slice_get, IfSome, option_map, flat_map, eq-eqb, false≢true, append_assoc, append-nil, Each, In, each_get, each_append, each_map, each_mono, each_take, in_contains, in_left, in_right, upto, Object, GivesSymbols, LosesRow, Rose, Held, Provider, sized, FailsToStore, FindsNoMemory, StoreCounts, Goes, rose-before, Setup, RepairDone, Due, files_of, due_of, RepairJob, Given, Job, Action, WriteBody, SyncBody, WriteGate, SyncGate, Store, Fetch, Ask, Work, Remove, End, append_actions, open_actions, rewrite_actions, repair_actions, actions_of, appends_left, Answer, due_flags, Ended, block_given, blocks_given, symbols_given, Entry, State, Doubt, setup_in, worked_object, with_provider, ended, Moves, next_action, Acts, EndsAs, split_get, cond_true, RunsJob, Leaves, Ran, ran_from, object_numbered, EachHeldGoes, IsWhole, IsCut, IsCutInDoubt, Place, places, Gave, blocks_at, held_at, IsTruth, GivesPlace, RewrittenOn, PartlyRewrittenOn, IfFlagged, flags, RewritesAll, RewritesPart, RewritesSome, LosesAtPlace, RepairGives, IsTruthful, moves_made, moves_before, AreAscending, begun-repair, moves-next, appends_in, is_some-at, With, Made, object_made, IsOpenAtRest, MayName, first_record, with_job_of, Walked, repair-list, audit-within, runs}
+use Rattle.job_laws.proofs.Words.{◌≡◌, ℕ, zero, suc, ◌-◌, ◌<◌, ◌≤◌, ◌==◌, ◌⊎◌, Bool, true, false, List, [], ◌∷◌, ◌++◌, length, take, drop, Option, None, Some, refl, ap, sym, subst, ◌∙◌, inl, inr, arith, All, Contains, slice_get, option_map, flat_map, eq-eqb, false≢true, append_assoc, append-nil, Each, each_get, each_append, each_map, each_mono, each_take, in_contains, in_left, in_right, upto, Object, GivesSymbols, LosesRow, Rose, Held, Provider, sized, FailsToStore, FindsNoMemory, StoreCounts, Goes, rose-before, Setup, RepairDone, Due, files_of, due_of, RepairJob, Given, Job, Action, WriteBody, SyncBody, WriteGate, SyncGate, Store, Fetch, Ask, Work, Remove, End, append_actions, open_actions, rewrite_actions, repair_actions, actions_of, appends_left, Answer, Ended, block_given, blocks_given, symbols_given, Entry, State, Doubt, setup_in, worked_object, with_provider, ended, Moves, next_action, Acts, EndsAs, split_get, cond_true, RunsJob, Leaves, Ran, ran_from, object_numbered, EachHeldGoes, IsWhole, IsCut, Place, places, Gave, blocks_at, IsTruth, GivesPlace, RewrittenOn, PartlyRewrittenOn, IfFlagged, flags, RewritesAll, RewritesPart, RewritesSome, LosesAtPlace, RepairGives, IsTruthful, moves_made, moves_before, begun-repair, moves-next, appends_in, is_some-at, With, Made, object_made, IsOpenAtRest, MayName, first_record, with_job_of, Walked, repair-list, audit-within, runs}
 use Rattle.machine_defs.specs.Answers as answer
 use Rattle.job_laws.proofs.Runs.{Ends, job-ends}
 use Rattle.job_laws.proofs.Providers.{Called, calls-at, made-keeps}
 use Rattle.job_laws.proofs.Profiles.{made-numbered, worked-made}
 use Rattle.job_laws.proofs.Lasts.{Faults, NoRoom, none-moving}
-use Rattle.job_laws.proofs.Truth.{made-rises}
+use Rattle.job_laws.proofs.Truth.{if-some, made-rises}
 use Rattle.job_laws.proofs.Leaving.{counts-rise, others-stay}
 use Rattle.job_laws.proofs.Moving.{IsMove}
 use Rattle.job_laws.proofs.Endings.{listed, move-ends, act-ends, end-left, end-sure, none-written, one-whole, one-doubted, one-cut}
 use Rattle.job_laws.proofs.Questions.{each-in, held-sizes, all-each}
 use Rattle.job_laws.proofs.Heard.{IsNot}
+use Rattle.job_laws.proofs.Tails.{NoStore}
 use Rattle.job_laws.proofs.Rewritten.{IsNoneOf, IsBefore, AreOrdered, IsRepairing, column_at, after, after-either, after-none, after-some, Told, made-told, works-opened}
 use Rattle.job_laws.proofs.Places.{fetches_at, actions_at, IsAt, at-place, repairs-places, AreApart, all-apart, ordered-places, Cut, cut-at}
 use Rattle.job_laws.proofs.PlaceFacts.{FetchesAll, OpensAll, opens-fetches, opens-done, fetches-done, told-places, lacks-places, gives-places, work-cut, store-cut, IsStoreOf, stores-of, stores-all, stores-wider, stored-at, no-stores}
@@ -53,19 +54,16 @@ module _ (start : State) (O : IsOpenAtRest start 1) (w : State) (job : Job)
   list-is : actions_of s job ≡ flat_map (actions_at s job) all ++ tail
   list-is = cc (
     repair-list s job W.kind_is,
-    repairs-places s start job (files_of start.records) W.pinned
-        (held-sizes start O),
+    repairs-places s start job (files_of start.records) W.pinned (held-sizes start O),
   )
 
   places-apart : AreApart all
   places-apart = all-apart s start (files_of start.records)
-      (subst (AreAscending 0) W.pinned
-      (W.sound.jobs job.number job (runs start O RepairJob w job W)).ascending)
+      (rw W.pinned at (W.sound.jobs job.number job (runs start O RepairJob w job W)).ascending)
 
   ordered-acts : AreOrdered acts
   ordered-acts = ordered-take (actions_of s job) job.place
-      (subst AreOrdered (sym list-is)
-      (ordered-places s job all tail places-apart (tt, (tt, (tt, (tt, (tt, tt)))))
+      (rw (← list-is) at (ordered-places s job all tail places-apart (tt, (tt, (tt, (tt, (tt, tt)))))
       (λ o t. tt, (λ o t. tt, (λ o t. tt, (λ o t. tt, (λ o t. tt, tt)))))))
 
   repairing-places : (ps : List Place) → Each IsRepairing (flat_map (actions_at s job) ps)
@@ -76,8 +74,7 @@ module _ (start : State) (O : IsOpenAtRest start 1) (w : State) (job : Job)
 
   repairing-acts : Each IsRepairing acts
   repairing-acts = each_take IsRepairing (actions_of s job) job.place
-      (subst (Each IsRepairing) (sym list-is)
-      (each_append IsRepairing (flat_map (actions_at s job) all) tail (repairing-places all)
+      (rw (← list-is) at (each_append IsRepairing (flat_map (actions_at s job) all) tail (repairing-places all)
       (tt, (tt, (tt, (tt, (tt, tt)))))))
 
   made-acts : Made x acts start.providers w.providers [] job.given
@@ -131,8 +128,7 @@ module _ (start : State) (O : IsOpenAtRest start 1) (w : State) (job : Job)
     -- the flagged providers are those of the due audit
     flagged-is : (j : ℕ) → job.flagged j ≡ flags ran due j
     unfolding setup_in
-    flagged-is j = ap (λ (f : ℕ → Bool). f j) W.flagged
-        ∙ ap (λ (d : Option Due). due_flags (setup_in start).tolerance d j) is-due
+    flagged-is j = cc
 
     told : (j : ℕ) (held : Held) → (start.providers j).held ≡ Some held →
         Told x refl job.given j held held acts (start.providers j) (w.providers j)
@@ -141,28 +137,17 @@ module _ (start : State) (O : IsOpenAtRest start 1) (w : State) (job : Job)
 
     truth : (ps : List Place) → FetchesAll s ps acts → IsTruth ran gave ps
     unfolding setup_in
-    truth ps f = λ j below. by_held j below (start.providers j).held refl
-      where
-        tells : (j : ℕ) → j < s.n → (held : Held) → (start.providers j).held ≡ Some held →
-            IsTruthful (gave j) (held_at ran held) ps (start.providers j).other_faults
-            (new.providers j).other_faults
-        tells j below held e =
-            subst (λ (objs : ℕ → Object). IsTruthful (gave j)
-            (λ p. sized (objs p.object).profile.size (held p.object p.stripe)) ps
-            (start.providers j).other_faults (new.providers j).other_faults) objects-are
-            (let t = told j held e in record {
-              each = all-each (λ p. (gave j p ≡ sized (made p.object).profile.size
-                  (held p.object p.stripe)) ⊎ (gave j p ≡ None)) ps
-                  (told-places x refl job.given j held below ps acts f t.told);
-              few = λ l. (let same = count-same j in let c = t.count (omega (arith, l, same)) in
-                  let m = lacks-places x refl job.given j held below ps acts f in omega (arith, c, m, same));
-            })
-
-        by_held : (j : ℕ) → j < s.n → (h : Option Held) → (start.providers j).held ≡ h →
-            IfSome h (λ held. IsTruthful (gave j) (held_at ran held) ps (start.providers j).other_faults
-            (new.providers j).other_faults)
-        by_held j below None e = tt
-        by_held j below (Some held) e = tells j below held e
+    truth ps f j below = if-some (start.providers j).held _
+        (λ held e. subst (λ (objs : ℕ → Object). IsTruthful (gave j)
+        (λ p. sized (objs p.object).profile.size (held p.object p.stripe)) ps (start.providers j).other_faults
+        (new.providers j).other_faults) objects-are (let t = told j held e in record {
+          each = all-each _ ps (told-places x refl job.given j held below ps acts f t.told);
+          few = λ l. (let same = count-same j in omega (
+            arith,
+            t.count (omega (arith, l, same)),
+            lacks-places x refl job.given j held below ps acts f,
+          ));
+        }))
 
     opened : (ps : List Place) → OpensAll s ps acts → All (GivesPlace ran gave symbols) ps
     unfolding setup_in
@@ -203,9 +188,7 @@ module _ (start : State) (O : IsOpenAtRest start 1) (w : State) (job : Job)
         (PartlyRewrittenOn (object_numbered ran) symbols ps j))
     unfolding setup_in
     rewritten-part ps st =
-        subst (λ (objs : ℕ → Object). EachHeldGoes ran
-        (λ j. IfFlagged (flags ran due j) (PartlyRewrittenOn objs symbols ps j))) objects-are
-        (goes-by (λ j. IfFlagged (flags ran due j) (PartlyRewrittenOn made symbols ps j))
+        rw objects-are at (goes-by (λ j. IfFlagged (flags ran due j) (PartlyRewrittenOn made symbols ps j))
         (λ j held below. by_flag j held (flags ran due j) (flagged-is j)))
       where
         each-place : (j : ℕ) (held : Held) (qs : List Place) →
@@ -219,10 +202,7 @@ module _ (start : State) (O : IsOpenAtRest start 1) (w : State) (job : Job)
         by_flag : (j : ℕ) (held : Held) (b : Bool) → job.flagged j ≡ b →
             IfFlagged b (PartlyRewrittenOn made symbols ps j) held (after x job.given j acts held)
         by_flag j held true f = record {
-          stored = all-each (λ (p : Place). (after x job.given j acts held p.object p.stripe
-              ≡ held p.object p.stripe) ⊎
-              (after x job.given j acts held p.object p.stripe
-              ≡ Some (column_at x job.given j p.object p.stripe))) ps (each-place j held ps);
+          stored = all-each _ ps (each-place j held ps);
           others = λ p n. same-elsewhere ps st j held p n;
         }
         by_flag j held false f = λ o t. same-unflagged ps st j held f o t
@@ -251,32 +231,22 @@ module _ (start : State) (O : IsOpenAtRest start 1) (w : State) (job : Job)
       symbols = symbols;
       truth = truth all (opens-fetches s all acts opens);
       gives = opened all opens;
-      held = subst (λ (objs : ℕ → Object). EachHeldGoes ran
-          (λ j. IfFlagged (flags ran due j) (RewrittenOn objs symbols all j))) objects-are
-          (goes-by (λ j. IfFlagged (flags ran due j) (RewrittenOn made symbols all j))
+      held = rw objects-are at (goes-by (λ j. IfFlagged (flags ran due j) (RewrittenOn made symbols all j))
           (λ j held below. by_flag j held below (flags ran due j) (flagged-is j)));
     }
       where
         opens : OpensAll s all acts
-        opens = subst (OpensAll s all) (sym e)
-            (subst (λ ps. OpensAll s ps (flat_map (actions_at s job) all ++ behind)) (append-nil all)
-            (opens-done s job all [] behind tt))
+        opens = subst (OpensAll s all) (sym e) (rw (append-nil all) at (opens-done s job all [] behind tt))
 
         st : Each (IsStoreOf job s.n all) acts
-        st = subst (Each (IsStoreOf job s.n all)) (sym e)
-            (each_append (IsStoreOf job s.n all) (flat_map (actions_at s job) all) behind
-            (stores-all s job all) b)
+        st = (rw (← e) at (each_append (IsStoreOf job s.n all) (flat_map (actions_at s job) all) behind
+            (stores-all s job all) b))
 
         by_flag : (j : ℕ) (held : Held) → j < s.n → (b : Bool) → job.flagged j ≡ b →
             IfFlagged b (RewrittenOn made symbols all j) held (after x job.given j acts held)
         by_flag j held below true f = record {
-          stored = all-each (λ (p : Place). after x job.given j acts held p.object p.stripe
-              ≡ Some (column_at x job.given j p.object p.stripe)) all
-              (each-in (λ (p : Place). after x job.given j acts held p.object p.stripe
-              ≡ Some (column_at x job.given j p.object p.stripe)) all
-              (λ p i. after-some x job.given j acts held p.object p.stripe
-              (subst (In (Store j p.object p.stripe)) (sym e)
-              (in_left (flat_map (actions_at s job) all) behind (Store j p.object p.stripe)
+          stored = all-each _ all (each-in _ all (λ p i. after-some x job.given j acts held p.object p.stripe
+              (rw (← e) at (in_left (flat_map (actions_at s job) all) behind (Store j p.object p.stripe)
               (stored-at s job j all p below f i)))));
           others = λ p n. same-elsewhere all st j held p n;
         }
@@ -285,8 +255,8 @@ module _ (start : State) (O : IsOpenAtRest start 1) (w : State) (job : Job)
   -- before the append it is left
   places-left : (a : Action) → slice_get (actions_of s job) job.place ≡ Some a → (p : Place) → IsAt p a →
       0 < appends_left (setup_in w) job
-  places-left a h p at = subst (λ (t : Setup). 0 < appends_left t job) (sym W.setup)
-      (subst (λ xs. 0 < appends_in (drop job.place xs)) (sym (repair-list s job W.kind_is))
+  places-left a h p at = rw (← W.setup) at (subst (λ xs. 0 < appends_in (drop job.place xs))
+      (sym (repair-list s job W.kind_is))
       (elim (split_get (repair_actions s job) tail job.place a (cc (repair-list s job W.kind_is))) [
         | inl l ↦ audit-within (repair_actions s job) job.place l.0
         | inr r ↦ absurd (each_get (λ y. IsAt p y → ⊥) tail (job.place - length (repair_actions s job)) a
@@ -295,11 +265,7 @@ module _ (start : State) (O : IsOpenAtRest start 1) (w : State) (job : Job)
 
 -- ---- all ends of a repair
 
--- no store, and no work
-abbrev IsNoStore : Action → Type 0
-IsNoStore (Store j o t) = ⊥
-IsNoStore action = Unit {0}
-
+-- no work
 abbrev IsNoWork : Action → Type 0
 IsNoWork (Work o t) = ⊥
 IsNoWork action = Unit {0}
@@ -322,15 +288,9 @@ module _ (start new : State) (how : Answer) (heard : List Entry) (O : IsOpenAtRe
       ≡ flat_map (actions_at sx E.job) (places sx (files_of start.records)) ++ take q
       (append_actions ++ End ∷ []))
   behind-all action h n = elim (cut-next start O E.before E.job E.walked action h) [
-    | Cut.inside done place rest q parts at front ↦
-        absurd (n place (each_get (IsAt place) (actions_at sx E.job place) q action
-        (at-place sx E.job place) at))
-    | Cut.behind q at front ↦ (
-      q,
-      acts-are start O E.before E.job E.walked
-          (flat_map (actions_at sx E.job) (places sx (files_of start.records)) ++ take q
-          (append_actions ++ End ∷ [])) front,
-    )
+    | Cut.inside done place rest q parts at front ↦ absurd
+        (n place (each_get (IsAt place) (actions_at sx E.job place) q action (at-place sx E.job place) at))
+    | Cut.behind q at front ↦ (q, acts-are start O E.before E.job E.walked _ front)
   ]
 
   quiet-tail : (q : ℕ) →
@@ -344,28 +304,22 @@ module _ (start new : State) (how : Answer) (heard : List Entry) (O : IsOpenAtRe
     all-some : (action : Action) → slice_get (actions_of sx E.job) E.job.place ≡ Some action →
         ((p : Place) → IsAt p action → ⊥) → RewritesSome (ran_from start new heard)
         (flags (ran_from start new heard) due)
-    all-some action h n =
-        (let b = behind-all action h n in
+    all-some action h n = (let b = behind-all action h n in
         let ps = places sx (files_of start.records) in
         some-part start O E.before E.job E.walked new heard held-same count-same due is-due ps []
         (sym (append-nil ps))
         (subst (OpensAll sx ps) (sym b.1)
-        (subst (λ qs. OpensAll sx qs
-        (flat_map (actions_at sx E.job) ps ++ take b.0 (append_actions ++ End ∷ []))) (append-nil ps)
-        (opens-done sx E.job ps [] (take b.0 (append_actions ++ End ∷ [])) tt)))
-        (subst (Each (IsStoreOf E.job sx.n ps)) (sym b.1)
-        (each_append (IsStoreOf E.job sx.n ps) (flat_map (actions_at sx E.job) ps)
+        (rw (append-nil ps) at (opens-done sx E.job ps [] (take b.0 (append_actions ++ End ∷ [])) tt)))
+        (rw (← b.1) at (each_append (IsStoreOf E.job sx.n ps) (flat_map (actions_at sx E.job) ps)
         (take b.0 (append_actions ++ End ∷ [])) (stores-all sx E.job ps) (quiet-tail b.0))))
 
     -- at a store the place is open, and some of its blocks may be stored
     store-some : (j o t : ℕ) → slice_get (actions_of sx E.job) E.job.place ≡ Some (Store j o t) →
         RewritesSome (ran_from start new heard) (flags (ran_from start new heard) due)
     store-some j o t h = elim (cut-next start O E.before E.job E.walked (Store j o t) h) [
-      | Cut.behind q at front ↦
-          absurd (each_get IsNoStore (append_actions ++ End ∷ []) q (Store j o t)
+      | Cut.behind q at front ↦ absurd (each_get NoStore (append_actions ++ End ∷ []) q (Store j o t)
           (tt, (tt, (tt, (tt, (tt, tt))))) at)
-      | Cut.inside done place rest q parts at front ↦
-          (let c = store-cut sx E.job place q j o t at in
+      | Cut.inside done place rest q parts at front ↦ (let c = store-cut sx E.job place q j o t at in
           let here : List Action = open_actions sx place.object place.stripe ++ take c.0
           (rewrite_actions sx E.job place.object place.stripe) in
           let is : take E.job.place (actions_of sx E.job) ≡ flat_map (actions_at sx E.job) done ++ here =
@@ -374,15 +328,13 @@ module _ (start new : State) (how : Answer) (heard : List Entry) (O : IsOpenAtRe
           ∙ ap (λ l. flat_map (actions_at sx E.job) done ++ l) c.1 in
           some-part start O E.before E.job E.walked new heard held-same count-same due is-due
           (done ++ place ∷ []) rest (parts ∙ sym (append_assoc done (place ∷ []) rest))
-          (subst (OpensAll sx (done ++ place ∷ [])) (sym is)
-          (opens-done sx E.job done (place ∷ []) here (
+          (rw (← is) at (opens-done sx E.job done (place ∷ []) here (
             take c.0 (rewrite_actions sx E.job place.object place.stripe),
             [],
             sym (append-nil here),
             tt,
           )))
-          (subst (Each (IsStoreOf E.job sx.n (done ++ place ∷ []))) (sym is)
-          (each_append (IsStoreOf E.job sx.n (done ++ place ∷ []))
+          (rw (← is) at (each_append (IsStoreOf E.job sx.n (done ++ place ∷ []))
           (flat_map (actions_at sx E.job) done) here
           (stores-wider E.job sx.n done (done ++ place ∷ []) (flat_map (actions_at sx E.job) done)
           (λ p i. in_left done (place ∷ []) p i) (stores-all sx E.job done))
@@ -399,13 +351,10 @@ module _ (start new : State) (how : Answer) (heard : List Entry) (O : IsOpenAtRe
         LosesAtPlace (ran_from start new heard) (flags (ran_from start new heard) due) t row
     unfolding setup_in
     lost-at o t row h loses = elim (cut-next start O E.before E.job E.walked (Work o t) h) [
-      | Cut.behind q at front ↦
-          absurd (each_get IsNoWork (append_actions ++ End ∷ []) q (Work o t)
+      | Cut.behind q at front ↦ absurd (each_get IsNoWork (append_actions ++ End ∷ []) q (Work o t)
           (tt, (tt, (tt, (tt, (tt, tt))))) at)
-      | Cut.inside done place rest q parts at front ↦
-          (let c = work-cut sx E.job place q o t at in
-          let is : take E.job.place (actions_of sx E.job)
-          ≡ flat_map (actions_at sx E.job) done ++ fetches_at sx place =
+      | Cut.inside done place rest q parts at front ↦ (let c = work-cut sx E.job place q o t at in
+          let is =
           acts-are start O E.before E.job E.walked
           (flat_map (actions_at sx E.job) done ++ take q (actions_at sx E.job place)) front
           ∙ ap (λ l. flat_map (actions_at sx E.job) done ++ l) c.0 in
@@ -416,19 +365,14 @@ module _ (start new : State) (how : Answer) (heard : List Entry) (O : IsOpenAtRe
             gave = λ j p. block_given E.job.given p.object p.stripe j;
             symbols = λ p. symbols_given E.job.given p.object p.stripe;
             part = part start O E.before E.job E.walked new heard held-same count-same due is-due done
-                (place ∷ rest) parts
-                (subst (OpensAll sx done) (sym is)
-                (subst (λ ps. OpensAll sx ps (flat_map (actions_at sx E.job) done ++ fetches_at sx place))
-                (append-nil done) (opens-done sx E.job done [] (fetches_at sx place) tt)))
-                (subst (Each (IsStoreOf E.job sx.n done)) (sym is)
+                (place ∷ rest) parts (subst (OpensAll sx done) (sym is) (rw (append-nil done) at
+                (opens-done sx E.job done [] (fetches_at sx place) tt))) (rw (← is) at
                 (each_append (IsStoreOf E.job sx.n done) (flat_map (actions_at sx E.job) done)
-                (fetches_at sx place) (stores-all sx E.job done)
-                (each_map (IsStoreOf E.job sx.n done) (λ j. Fetch j place.object place.stripe) (upto sx.n)
-                (λ j. tt))));
+                (fetches_at sx place) (stores-all sx E.job done) (each_map (IsStoreOf E.job sx.n done)
+                (λ j. Fetch j place.object place.stripe) (upto sx.n) (λ j. tt))));
             truth = truth start O E.before E.job E.walked new heard held-same count-same due is-due
                 (done ++ place ∷ [])
-                (subst (FetchesAll sx (done ++ place ∷ [])) (sym is)
-                (fetches-done sx E.job done (place ∷ []) (fetches_at sx place) (
+                (rw (← is) at (fetches-done sx E.job done (place ∷ []) (fetches_at sx place) (
                   [],
                   [],
                   sym (append-nil (fetches_at sx place ++ [])
@@ -438,9 +382,7 @@ module _ (start new : State) (how : Answer) (heard : List Entry) (O : IsOpenAtRe
             stripe_is = sym c.2;
             loses = subst (λ m. LosesRow (object_numbered (ran_from start new heard) place.object) t
                 (blocks_given E.job.given sx.n place.object m) row) c.2
-                (subst (λ n. LosesRow (object_numbered (ran_from start new heard) n) t
-                (blocks_given E.job.given sx.n n t) row) c.1
-                (subst (λ (z : Object). LosesRow z t (blocks_given E.job.given sx.n o t) row)
+                (rw c.1 at (subst (λ (z : Object). LosesRow z t (blocks_given E.job.given sx.n o t) row)
                 (worked-made start O RepairJob E.before E.job E.walked o
                 ∙ made-numbered start O RepairJob E.job (ran_from start new heard) refl refl o)
                 (subst (λ n. LosesRow (worked_object E.before E.job o) t (blocks_given E.job.given n o t) row)
@@ -485,17 +427,14 @@ module _ (start new : State) (how : Answer) (heard : List Entry) (O : IsOpenAtRe
   store-flagged : (j o t : ℕ) → slice_get (actions_of sx E.job) E.job.place ≡ Some (Store j o t) →
       (place : Place) × (j < sx.n) × (E.job.flagged j ≡ true) × IsAt place (Store j o t)
   store-flagged j o t h = elim (cut-next start O E.before E.job E.walked (Store j o t) h) [
-    | Cut.behind q at front ↦
-        absurd (each_get IsNoStore (append_actions ++ End ∷ []) q (Store j o t)
+    | Cut.behind q at front ↦ absurd (each_get NoStore (append_actions ++ End ∷ []) q (Store j o t)
         (tt, (tt, (tt, (tt, (tt, tt))))) at)
-    | Cut.inside done place rest q parts at front ↦
-        (let u = each_get (IsStoreOf E.job sx.n (place ∷ [])) (actions_at sx E.job place) q (Store j o t)
-        (stores-of sx E.job place) at in (
+    | Cut.inside done place rest q parts at front ↦ (let u = each_get (IsStoreOf E.job sx.n (place ∷ []))
+        (actions_at sx E.job place) q (Store j o t) (stores-of sx E.job place) at in (
           place,
           u.0,
           u.1,
-          each_get (IsAt place) (actions_at sx E.job place) q (Store j o t)
-              (at-place sx E.job place) at,
+          each_get (IsAt place) (actions_at sx E.job place) q (Store j o t) (at-place sx E.job place) at,
         ))
   ]
 
@@ -503,15 +442,14 @@ module _ (start new : State) (how : Answer) (heard : List Entry) (O : IsOpenAtRe
       (E.before.providers j).store_faults ≤ p.store_faults →
       new.providers ≡ with_provider E.before.providers j p →
       Rose (start.providers j).store_faults (new.providers j).store_faults
-  store-rose j p rose low e =
-      (let now : new.providers j ≡ p = ap (λ (f : ℕ → Provider). f j) e
+  store-rose j p rose low e = (let now : new.providers j ≡ p = ap (λ (f : ℕ → Provider). f j) e
       ∙ cond_true (j == j) p (E.before.providers j) (eq-eqb j j refl) in
       let up = (made-rises (with_job_of start RepairJob E.job)
       (take E.job.place (actions_of sx E.job)) start.providers E.before.providers
       [] E.job.given j E.walked.made).0 in
-      subst (λ (q : Provider). Rose (start.providers j).store_faults q.store_faults) (sym now)
-      (rose-before (start.providers j).store_faults (E.before.providers j).store_faults p.store_faults up low
-      rose))
+      (rw (← now) at (rose-before (start.providers j).store_faults (E.before.providers j).store_faults
+      p.store_faults up low
+      rose)))
 
   -- a store failed
   store-fails : (j o t : ℕ) → E.action ≡ Store j o t → (p : Provider) →
@@ -519,18 +457,17 @@ module _ (start new : State) (how : Answer) (heard : List Entry) (O : IsOpenAtRe
       new ≡ record (ended E.before E.job) { providers = with_provider E.before.providers j p } →
       Gives (answer.ProviderFault j)
   unfolding setup_in
-  store-fails j o t at p failed is =
-      (let h = listed E (Store j o t) at (λ e. cc) in
+  store-fails j o t at p failed is = (let h = listed E (Store j o t) at (λ e. cc) in
       let e : new.providers ≡ with_provider E.before.providers j p = ap (λ (v : State). v.providers) is in
       let kept = called-held j p (failed.held, failed.counts) e in
-      let cut = store-flagged j o t h in
-      let left = places-left start O E.before E.job E.walked (Store j o t) h cut.0 cut.3 in (
+      let cut = store-flagged j o t h in (
         cut.1,
         sym (flagged-is start O E.before E.job E.walked new heard (λ k. (kept k).0)
             (λ k. (kept k).1) due is-due j) ∙ cut.2,
         store-rose j p failed.cause failed.counts.store_faults e,
         record {
-          after = none-done (ap (λ (v : State). v.records) is) left;
+          after = none-done (ap (λ (v : State). v.records) is) (places-left start O E.before E.job E.walked
+              (Store j o t) h cut.0 cut.3);
           sure = ap (option_map (λ (d : Doubt). d.entry))
               (ap (λ (v : State). v.doubt) is ∙ sure (Store j o t) at refl);
         },
@@ -544,17 +481,16 @@ module _ (start new : State) (how : Answer) (heard : List Entry) (O : IsOpenAtRe
   -- a cut before the one record
   cut-none : 0 < appends_left (setup_in E.before) E.job → new.records ≡ E.before.records → new.doubt ≡ None →
       IsCut (ran_from start new heard) (RepairDone due.number ∷ [])
-  cut-none left records none = subst (λ r. IsCut (ran_from start new heard) (r ∷ [])) record-is
-      (one-cut O E.walked refl new heard left records none)
+  cut-none left records none = rw record-is at (one-cut O E.walked refl new heard left records none)
 
   store-memory : (j o t : ℕ) → E.action ≡ Store j o t → (p : Provider) →
       FindsNoMemory (E.before.providers j) p →
       new ≡ record (ended E.before E.job) { providers = with_provider E.before.providers j p } →
       Gives answer.Memory
   store-memory j o t at p failed is = (let h = listed E (Store j o t) at (λ e. cc) in
-      let kept = called-held j p (failed.held, failed.counts) (cc) in let cut = store-flagged j o t h in
-      let left = places-left start O E.before E.job E.walked (Store j o t) h cut.0 cut.3 in (
-        cut-none left (cc) (cc (sure (Store j o t) at refl)),
+      let kept = called-held j p (failed.held, failed.counts) (cc) in let cut = store-flagged j o t h in (
+        cut-none (places-left start O E.before E.job E.walked (Store j o t) h cut.0 cut.3) (cc)
+            (cc (sure (Store j o t) at refl)),
         store-some (λ k. (kept k).0) (λ k. (kept k).1) j o t h,
       ))
 
@@ -562,18 +498,15 @@ module _ (start new : State) (how : Answer) (heard : List Entry) (O : IsOpenAtRe
   work-loses : (o t row : ℕ) → E.action ≡ Work o t →
       LosesRow (worked_object E.before E.job o) t (blocks_given E.job.given (setup_in E.before).n o t) row →
       new ≡ ended E.before E.job → Gives (answer.Lost t row)
-  work-loses o t row at loses is =
-      (let h = listed E (Work o t) at (λ e. cc) in
-      let e : new.providers ≡ E.before.providers = ap (λ (v : State). v.providers) is in
-      let lost = lost-at (same-held e) (same-count e) o t row h loses in
-      let left = places-left start O E.before E.job E.walked (Work o t) h (record { object = o; stripe = t })
-      (refl, refl) in (
+  work-loses o t row at loses is = (let h = listed E (Work o t) at (λ e. cc) in
+      let e : new.providers ≡ E.before.providers = ap (λ (v : State). v.providers) is in (
         record {
-          after = none-done (ap (λ (v : State). v.records) is) left;
+          after = none-done (ap (λ (v : State). v.records) is) (places-left start O E.before E.job E.walked
+              (Work o t) h (record { object = o; stripe = t }) (refl, refl));
           sure = ap (option_map (λ (d : Doubt). d.entry))
               (ap (λ (v : State). v.doubt) is ∙ sure (Work o t) at refl);
         },
-        lost,
+        lost-at (same-held e) (same-count e) o t row h loses,
       ))
 
   -- a move failed
@@ -594,8 +527,7 @@ module _ (start new : State) (how : Answer) (heard : List Entry) (O : IsOpenAtRe
       faulted : Faults start O RepairJob E.before E.job E.walked new → Gives answer.DiskFault
       faulted F = (
         rose-before start.disk_faults E.before.disk_faults new.disk_faults E.walked.disk F.low F.rose,
-        subst (λ r. IsCutInDoubt (ran_from start new heard) (r ∷ [])) record-is
-            (one-doubted O E.walked refl new heard F),
+        (rw record-is at (one-doubted O E.walked refl new heard F)),
         whole F.providers,
       )
 
@@ -611,18 +543,16 @@ module _ (start new : State) (how : Answer) (heard : List Entry) (O : IsOpenAtRe
       (let next : next_action E.before E.job ≡ Some End = E.next ∙ ap Some at in
       let stands : slice_get (actions_of sx E.job) E.job.place ≡ Some End = cc in
       let b = behind-all End stands (λ p u. u) in (
-        subst (λ r. IsWhole (ran_from start new heard) (r ∷ [])) record-is
-            (one-whole O E.walked refl new heard (end-left O E.walked refl next)
-            (end-sure O E.walked refl next) records doubt),
+        (rw record-is at (one-whole O E.walked refl new heard (end-left O E.walked refl next)
+            (end-sure O E.walked refl next) records doubt)),
         all-part start O E.before E.job E.walked new heard (same-held providers)
             (same-count providers) due is-due (take b.0 (append_actions ++ End ∷ [])) b.1 (quiet-tail b.0),
       ))
 
   ended-by : (a : Answer) → E.action ≡ End → EndsAs E.before E.job RepairJob a → new ≡ ended E.before E.job →
       Gives a
-  ended-by (answer.Repaired number) at so is =
-      (let e = at-end at (ap (λ (v : State). v.records) is) (ap (λ (v : State). v.doubt) is)
-      (ap (λ (v : State). v.providers) is) in (so ∙ subject-is, e.0, e.1))
+  ended-by (answer.Repaired number) at so is = (let e = at-end at (ap (λ (v : State). v.records) is)
+      (ap (λ (v : State). v.doubt) is) (ap (λ (v : State). v.providers) is) in (so ∙ subject-is, e.0, e.1))
   ended-by a at so is = absurd so
 
   by-store : (j o t : ℕ) (a : Answer) → E.action ≡ Store j o t →

@@ -1,6 +1,6 @@
 -- What the fetches, the works and the stores of a repair gave and left, of one provider, by the list of its
 -- actions alone.
-use Rattle.job_laws.proofs.Words.{◌≡◌, ℕ, ◌+◌, ◌<◌, ◌≤◌, ◌==◌, ◌&&◌, ◌⊎◌, true, cond, List, [], ◌∷◌, Option, None, Some, refl, ap, sym, subst, ◌∙◌, inl, inr, arith, cases_Bool, cases_eq, eq-eqb, ne_eqb, eqb-true, and_parts, and_from, sum_by-cons, Each, In, each_mono, upto, column_of_symbols, GivesSymbols, last_count, Held, Provider, sized, with_block, Stores, Fetches, FetchGives, FailsToGive, RepairJob, Given, Action, WriteBody, SyncBody, WriteGate, SyncGate, Store, Fetch, Ask, Work, Remove, End, block_given, blocks_given, symbols_given, cond_true, cond_false, symbols_given-newest, With, block_stored, Did, Made, object_made}
+use Rattle.job_laws.proofs.Words.{◌≡◌, ℕ, ◌+◌, ◌<◌, ◌≤◌, ◌==◌, ◌&&◌, ◌⊎◌, true, cond, List, [], ◌∷◌, Option, None, Some, refl, ap, sym, subst, ◌∙◌, inl, inr, arith, cases_Bool, cases_eq, eq-eqb, ne_eqb, eqb-true, and_parts, and_from, sum_by-cons, Each, In, each_mono, upto, column_of_symbols, GivesSymbols, last_count, Held, Provider, sized, with_block, Stores, Fetches, FailsToGive, RepairJob, Given, Action, Store, Fetch, Ask, Work, Remove, block_given, blocks_given, symbols_given, cond_true, cond_false, symbols_given-newest, With, block_stored, Did, Made, object_made}
 use Rattle.std.proofs.Common.{map, sum_by}
 use Rattle.job_laws.proofs.Heard.{IsNot, block-later, block-newest, symbols-later}
 use Rattle.job_laws.proofs.Truth.{call-hit, call-miss, lacks, lacks-same, lacks-few, made-rises}
@@ -78,15 +78,7 @@ module _ (x : With) (last : List Given) where
         | inr e ↦ inr e
         | inl e ↦ elim (store-either j k p t held o s) [ inl f ↦ inl (e ∙ f) | inr f ↦ inr (e ∙ f) ]
       ]
-  after-either j (Fetch k p t ∷ actions) held o s = after-either j actions held o s
-  after-either j (Ask k p t ∷ actions) held o s = after-either j actions held o s
-  after-either j (Work p t ∷ actions) held o s = after-either j actions held o s
-  after-either j (Remove k p ∷ actions) held o s = after-either j actions held o s
-  after-either j (WriteBody ∷ actions) held o s = after-either j actions held o s
-  after-either j (SyncBody ∷ actions) held o s = after-either j actions held o s
-  after-either j (WriteGate ∷ actions) held o s = after-either j actions held o s
-  after-either j (SyncGate ∷ actions) held o s = after-either j actions held o s
-  after-either j (End ∷ actions) held o s = after-either j actions held o s
+  after-either j (_ ∷ actions) held o s = after-either j actions held o s
 
   -- a block that is not stored stays
   store-other : (j k p t : ℕ) (held : Held) (o s : ℕ) → IsNot (Store j o s) (Store k p t) →
@@ -109,21 +101,12 @@ module _ (x : With) (last : List Given) where
   after-none j (Store k p t ∷ actions) held o s n =
       after-none j actions (cond (k == j) (with_block p t (column_at j p t) held) held) o s n.1
       ∙ store-other j k p t held o s n.0
-  after-none j (Fetch k p t ∷ actions) held o s n = after-none j actions held o s n.1
-  after-none j (Ask k p t ∷ actions) held o s n = after-none j actions held o s n.1
-  after-none j (Work p t ∷ actions) held o s n = after-none j actions held o s n.1
-  after-none j (Remove k p ∷ actions) held o s n = after-none j actions held o s n.1
-  after-none j (WriteBody ∷ actions) held o s n = after-none j actions held o s n.1
-  after-none j (SyncBody ∷ actions) held o s n = after-none j actions held o s n.1
-  after-none j (WriteGate ∷ actions) held o s n = after-none j actions held o s n.1
-  after-none j (SyncGate ∷ actions) held o s n = after-none j actions held o s n.1
-  after-none j (End ∷ actions) held o s n = after-none j actions held o s n.1
+  after-none j (_ ∷ actions) held o s n = after-none j actions held o s n.1
 
   -- a block that is stored is the column
   store-own : (j o s : ℕ) (held : Held) → cond (j == j) (with_block o s (column_at j o s) held) held o s
       ≡ Some (column_at j o s)
-  store-own j o s held =
-      ap (λ (h : Held). h o s)
+  store-own j o s held = ap (λ (h : Held). h o s)
       (cond_true (j == j) (with_block o s (column_at j o s) held) held (eq-eqb j j refl))
       ∙ cond_true ((o == o) && (s == s)) (Some (column_at j o s)) (held o s)
       (and_from (o == o) (s == s) (eq-eqb o o refl) (eq-eqb s s refl))
@@ -138,15 +121,7 @@ module _ (x : With) (last : List Given) where
       [ inl f ↦ f ∙ store-own j o s held | inr f ↦ f ])
   after-some j (Store k p t ∷ actions) held o s (inr i) =
       after-some j actions (cond (k == j) (with_block p t (column_at j p t) held) held) o s i
-  after-some j (Fetch k p t ∷ actions) held o s (inr i) = after-some j actions held o s i
-  after-some j (Ask k p t ∷ actions) held o s (inr i) = after-some j actions held o s i
-  after-some j (Work p t ∷ actions) held o s (inr i) = after-some j actions held o s i
-  after-some j (Remove k p ∷ actions) held o s (inr i) = after-some j actions held o s i
-  after-some j (WriteBody ∷ actions) held o s (inr i) = after-some j actions held o s i
-  after-some j (SyncBody ∷ actions) held o s (inr i) = after-some j actions held o s i
-  after-some j (WriteGate ∷ actions) held o s (inr i) = after-some j actions held o s i
-  after-some j (SyncGate ∷ actions) held o s (inr i) = after-some j actions held o s i
-  after-some j (End ∷ actions) held o s (inr i) = after-some j actions held o s i
+  after-some j (_ ∷ actions) held o s (inr i) = after-some j actions held o s i
 
 -- ---- what was made
 
@@ -191,22 +166,19 @@ module _ (x : With) (repairs : x.kind ≡ RepairJob) (last : List Given) (j : �
     held_is = c.held ∙ h;
     count = λ l. (let one : lack_block begin (Fetch k o s) ≡ lacks block (sized (object_made x o).profile.size
         (begin o s)) =
-        cc (cond_true (k == j) (lacks (block_given last o s k) (sized (object_made x o).profile.size
-        (begin o s))) 0 (eq-eqb k j hit)) in elim gives [
-          | inl g ↦ (omega (
+        cc (cond_true (k == j) (lacks (block_given last o s k) _) 0 (eq-eqb k j hit)) in elim gives [
+          | inl g ↦ (omega (arith, lacks-same block (sized (object_made x o).profile.size (begin o s)) g))
+          | inr f ↦ (let low = c.counts.other_faults in omega (
             arith,
-            lacks-same block (sized (object_made x o).profile.size (begin o s)) g,
-            one,
+            lacks-few block (sized (object_made x o).profile.size (begin o s)),
+            f.1 (omega (arith, low, l)),
           ))
-          | inr f ↦ (let z = lacks-few block (sized (object_made x o).profile.size (begin o s)) in
-              let low = c.counts.other_faults in let up = f.1 (omega (arith, low, l)) in
-              omega (arith, one, z, up))
         ]);
   }
     where
       gives : (block ≡ sized (object_made x o).profile.size (begin o s)) ⊎ FailsToGive p block q
       gives = elim c.gives [
-        | inl g ↦ inl (subst (λ t. FetchGives (object_made x o).profile.size o s t block) h g
+        | inl g ↦ inl ((rw h at g)
             ∙ ap (sized (object_made x o).profile.size) kept)
         | inr f ↦ inr f
       ]
@@ -219,22 +191,20 @@ module _ (x : With) (repairs : x.kind ≡ RepairJob) (last : List Given) (j : �
       elim (cases_eq k j) [
         | inl hit ↦ fetch-step begin held k o s block (old j) (mid j) hit (kept hit)
             (cc (block-later x actions mid new so_far last k o s rest order, block-newest k o s block given))
-            h (subst (λ n. Fetches (object_made x o).profile.size o s (old n) block (mid n)) hit
-            (call-hit old k (λ p q. Fetches (object_made x o).profile.size o s p block q) mid called))
+            h (rw hit at (call-hit old k (λ p q. Fetches (object_made x o).profile.size o s p block q) mid
+            called))
         | inr miss ↦ still begin held (Fetch k o s) (old j) (mid j) (λ e. absurd (miss e))
-            (cond_false (k == j) (lacks (block_given last o s k)
-            (sized (object_made x o).profile.size (begin o s))) 0 (ne_eqb k j miss)) refl
+            (cond_false (k == j) _ 0 (ne_eqb k j miss)) refl
             (call-miss old k (λ p q. Fetches (object_made x o).profile.size o s p block q) mid j miss called)
             h
       ]
   one-step begin held (Store k o s) actions old mid new given so_far fit order kept (called, is) rest h =
       elim (cases_eq k j) [
-        | inl hit ↦ (let c = subst (λ n. Stores o s (block_stored x x.kind given k o s) (old n) (mid n)) hit
-            (call-hit old k (Stores o s (block_stored x x.kind given k o s)) mid called) in
+        | inl hit ↦ (let c = rw hit at (call-hit old k (Stores o s (block_stored x x.kind given k o s)) mid
+            called) in
             let symbols : symbols_given given o s ≡ symbols_given last o s =
             cc (symbols-later x actions mid new so_far last o s rest (each_mono (IsNoneOf o s)
             (IsNot (Work o s)) actions (λ y u. none-work o s y u) order)) in
-            let block : block_stored x x.kind given k o s ≡ column_at x last j o s = cc in
             record {
               told = tt;
               held_is = cc (cond_true (k == j) (with_block o s (column_at x last j o s) held) held
@@ -276,15 +246,7 @@ module _ (x : With) (repairs : x.kind ≡ RepairJob) (last : List Given) (j : �
           Each (IsKeptAt begin (cond (k == j) (with_block p t (column_at x last j p t) held) held)) xs
       all [] n e = tt
       all (y ∷ xs) n e = (one y n.0 e.0, all xs n.1 e.1)
-  kept-on begin held (Fetch k o s) actions order h = h
-  kept-on begin held (Ask k o r) actions order h = h
-  kept-on begin held (Work o s) actions order h = h
-  kept-on begin held (Remove k o) actions order h = h
-  kept-on begin held WriteBody actions order h = h
-  kept-on begin held SyncBody actions order h = h
-  kept-on begin held WriteGate actions order h = h
-  kept-on begin held SyncGate actions order h = h
-  kept-on begin held End actions order h = h
+  kept-on begin held _ actions order h = h
 
   after-cons : (a : Action) (actions : List Action) (held : Held) →
       after x last j (a ∷ actions) held ≡ after x last j actions (after x last j (a ∷ []) held)
@@ -304,7 +266,7 @@ module _ (x : With) (repairs : x.kind ≡ RepairJob) (last : List Given) (j : �
   told-on begin held [] old new given fit order kept m h = record {
     told = tt;
     held_is = cc;
-    count = λ l. (let e = ap (λ (f : ℕ → Provider). (f j).other_faults) m.0 in omega (arith, e));
+    count = λ l. (omega (arith, ap (λ (f : ℕ → Provider). (f j).other_faults) m.0));
   }
   told-on begin held (a ∷ actions) old new given fit order kept (mid, so_far, did, rest) h =
       (let s = one-step begin held a actions old mid new given so_far fit.0 order.0 kept.0 did rest h in
@@ -314,12 +276,7 @@ module _ (x : With) (repairs : x.kind ≡ RepairJob) (last : List Given) (j : �
       record {
         told = (s.told, r.told);
         held_is = cc (after-cons a actions held);
-        count = λ l. (omega (
-          arith,
-          s.count (omega (arith, up, l)),
-          r.count l,
-          sum_by-cons (lack_block begin) a actions,
-        ));
+        count = λ l. (omega (arith, sum_by-cons (lack_block begin) a actions));
       })
 
   -- of a repair's actions a provider that tells gave what it held, or nothing, and holds what was stored
@@ -353,16 +310,15 @@ works-opened x (a ∷ actions) old new given last order (mid, so_far, did, rest)
     (one a order.0 did, works-opened x actions mid new so_far last order.1 rest)
   where
     one : (a : Action) → IsBefore a actions → Did x a old mid given so_far → HasOpened x last a
-    one (Work o s) order (symbols, gives, same, is) = (let found : symbols_given last o s ≡ symbols =
-        cc (
+    one (Work o s) order (symbols, gives, same, is) = (let blocks : (k : ℕ) →
+        block_given given o s k ≡ block_given last o s k =
+        (λ k. cc (block-later x actions mid new so_far last k o s rest (each_mono (IsNoneOf o s)
+        (IsNot (Fetch k o s)) actions (λ y u. none-fetch k o s y u) order))) in
+        subst (λ ss. GivesSymbols (object_made x o) s (blocks_given last x.setup.n o s) ss) (sym (cc (
           symbols-later x actions mid new so_far last o s rest (each_mono (IsNoneOf o s) (IsNot (Work o s))
               actions (λ y u. none-work o s y u) order),
           symbols_given-newest o s symbols given,
-        ) in
-        let blocks : (k : ℕ) → block_given given o s k ≡ block_given last o s k =
-        (λ k. cc (block-later x actions mid new so_far last k o s rest (each_mono (IsNoneOf o s)
-        (IsNot (Fetch k o s)) actions (λ y u. none-fetch k o s y u) order))) in
-        subst (λ ss. GivesSymbols (object_made x o) s (blocks_given last x.setup.n o s) ss) (sym found)
+        )))
         (subst (λ bs. GivesSymbols (object_made x o) s bs symbols) (λ i. map (λ k. blocks k i)
         (upto x.setup.n)) gives))
     one a order did = tt

@@ -76,8 +76,7 @@ walk-on start w kind profile job moment (m ∷ ms) O W (event, outcome, happens,
       walked = n.1;
       place = (omega (
         arith,
-        next-place start O kind (now w ms) r.next r.walked (moment + length ms) m.state
-            n.0 happens n.1,
+        next-place start O kind (now w ms) r.next r.walked (moment + length ms) m.state n.0 happens n.1,
       ));
     })
 

@@ -1,5 +1,5 @@
 -- From the run of a job, as a command tells it, to what it leaves.
-use Rattle.job_laws.proofs.Words.{◌≡◌, ◌≢◌, ℕ, zero, suc, ◌<◌, ◌≤◌, ◌⊎◌, false, List, [], ◌∷◌, ◌++◌, length, Option, None, Some, refl, sym, subst, ◌∙◌, inl, inr, arith, slice_get, IsSomeAnd, option_map, cases_lt, false≢true, Provider, each_image-mono, Record, Area, StandsActive, Kind, PutJob, GetJob, DropJob, AuditJob, RepairJob, UpgradeJob, Answer, IsSpelledKind, Entry, State, Doubt, StandsPlain, StandsWithDoubt, StandsSwitched, Seen, nobody, provider_at, setup_in_effect, ran_from, ran_alone, AreHanded, IsOpenAtRest, IsJustOpened, RunsJob, Leaves, LeftAlone, RanAlone, RunsAlone, SameOutside, MayName}
+use Rattle.job_laws.proofs.Words.{◌≡◌, ◌≢◌, ℕ, zero, suc, ◌<◌, ◌≤◌, ◌⊎◌, false, List, [], ◌∷◌, ◌++◌, length, Option, None, Some, refl, sym, subst, ◌∙◌, inl, inr, arith, slice_get, IsSomeAnd, option_map, cases_lt, Provider, each_image-mono, Record, Area, StandsActive, Kind, PutJob, GetJob, DropJob, AuditJob, RepairJob, UpgradeJob, Answer, IsSpelledKind, Entry, State, Doubt, StandsPlain, StandsWithDoubt, StandsSwitched, Seen, nobody, provider_at, setup_in_effect, ran_from, AreHanded, IsOpenAtRest, IsJustOpened, RunsJob, Leaves, LeftAlone, RanAlone, RunsAlone, MayName}
 use Rattle.command_defs.specs.Opens as opens
 use Rattle.opening_defs.proofs.Opened.{has-setup, state_with, opened-with}
 use Rattle.job_laws.proofs.Runs.{job-ends}
@@ -34,9 +34,8 @@ get-none (p ∷ ps) (suc j) l = get-none ps j (omega (arith, l))
 -- it is one whose vault was just opened over them
 pub state-over : (records : List Record) (faults : ℕ) (old : Seen) (R : opens.IsOpened old records) →
     IsJustOpened (opened_state R.area records faults old.providers) R.area records 1 faults old.providers
-state-over records faults old R =
-    opened-with R.area records faults old.providers (provider_at old.providers) R.read.accepted
-    R.read.in_grammar R.read.room (has-setup records R.read.accepted R.read.some) R.enough
+state-over records faults old R = opened-with R.area records faults old.providers (provider_at old.providers)
+    R.read.accepted R.read.in_grammar R.read.room (has-setup records R.read.accepted R.read.some) R.enough
     (get-provider old.providers)
 
 -- ---- what a last state tells
@@ -72,21 +71,20 @@ pub image-kept : (w last : State) (area : Area) (records : List Record) → Keep
 image-kept w last area records K history journal area_is unswitched some image h = by h
   where
     whole : last.journal ≡ last.records
-    whole = keeps-whole w last K (journal ∙ sym history)
+    whole = cc
 
     stands : (rs : List Record) → StandsActive image last.area rs → StandsActive image area rs
-    stands rs h = subst (λ a. StandsActive image a rs) (K.area ∙ area_is) h
+    stands rs h = (rw (K.area ∙ area_is) at h)
 
     by : StandsPlain last image ⊎ (StandsWithDoubt last image ⊎ StandsSwitched last image) →
         StandsActive image area last.records ⊎ IsSomeAnd (option_map (λ (d : Doubt). d.entry) last.doubt)
         (λ entry. StandsActive image area (entry ∷ last.records))
-    by (inl (inl h)) = inl (subst (StandsActive image area) whole (stands last.journal h))
+    by (inl (inl h)) = inl (rw whole at (stands last.journal h))
     by (inl (inr h)) = absurd (some-more K.added records some (cc))
     by (inr (inl h)) = inr (subst (λ (d : Option Doubt). IsSomeAnd (option_map (λ (d : Doubt). d.entry) d)
         (λ entry. StandsActive image area (entry ∷ last.records))) (sym h.in_doubt)
-        (subst (λ rs. StandsActive image area (h.doubt.entry ∷ rs)) whole
-        (stands (h.doubt.entry ∷ last.journal) h.stands)))
-    by (inr (inr h)) = absurd (false≢true (cc))
+        (rw whole at (stands (h.doubt.entry ∷ last.journal) h.stands)))
+    by (inr (inr h)) = cc
 
 -- ---- what is left of the run
 
@@ -128,20 +126,13 @@ module _ (records : List Record) (kind : Kind) (own : Option ℕ) (answer : Answ
       before = A.before;
       after = ran.last.records;
       doubt = option_map (λ (d : Doubt). d.entry) ran.last.doubt;
-      leaves = subst (λ n. Leaves
-          (record (ran_alone records old new heard A.faults ran.last.records
-          (option_map (λ (d : Doubt). d.entry) ran.last.doubt)) { disk_after = n }) kind own answer)
-          ran.faults_are
-          (subst (λ (f : ℕ → Provider).
+      leaves = rw ran.faults_are at (subst (λ (f : ℕ → Provider).
           Leaves (record (ran_from w ran.last heard) { new = f }) kind own answer)
           (λ i j. providers-seen w ran.last old new (setup_in_effect records).n refl R.enough same
           ran.handed left-by.others j i) left-by);
-      images = each_image-mono new.disk _ (λ image. StandsActive image R.area ran.last.records ⊎
-          IsSomeAnd (option_map (λ (d : Doubt). d.entry) ran.last.doubt)
-          (λ entry. StandsActive image R.area (entry ∷ ran.last.records)))
+      images = each_image-mono new.disk _ _
           (image-kept w ran.last R.area records kept refl refl refl refl R.read.some) ran.images;
-      outside_text = subst (λ rs. SameOutside R.area kind own answer records rs old.disk new.disk)
-          (keeps-whole w ran.last kept refl) ran.outside_text;
+      outside_text = rw (keeps-whole w ran.last kept refl) at ran.outside_text;
     };
     state = w;
     over = over;
@@ -157,19 +148,17 @@ module _ (records : List Record) (kind : Kind) (own : Option ℕ) (answer : Answ
 -- only a put names a profile
 others-name-none : (kind : Kind) (p : ℕ) → MayName kind (Some p) →
     ((name bytes : List ℕ) → kind ≡ PutJob name bytes → ⊥) → ⊥
-others-name-none kind p (MayName.none e) other = absurd (let f : Some p ≡ None = e in cc)
+others-name-none kind p (MayName.none e) other = absurd (cc e)
 others-name-none kind p (MayName.put name bytes e) other = other name bytes e
 
 -- a job of each kind that runs alone leaves what its kind says
 pub jobs-leave : (kind : Kind) (own : Option ℕ) (w last : State) (moment : ℕ) (answer : Answer)
     (heard : List Entry) → IsSpelledKind kind → MayName kind own → IsOpenAtRest w 1 →
     RunsJob w moment kind own answer heard last → Leaves (ran_from w last heard) kind own answer
-jobs-leave (PutJob name bytes) own w last moment answer heard spelled named O r =
-    put-leaves w last name bytes own answer heard O
-    (job-ends w last moment (PutJob name bytes) own answer heard O spelled named r)
-jobs-leave (GetJob name) None w last moment answer heard spelled named O r =
-    all-leaves w last name answer heard O
-    (job-ends w last moment (GetJob name) None answer heard O spelled named r)
+jobs-leave (PutJob name bytes) own w last moment answer heard spelled named O r = put-leaves w last name bytes
+    own answer heard O (job-ends w last moment (PutJob name bytes) own answer heard O spelled named r)
+jobs-leave (GetJob name) None w last moment answer heard spelled named O r = all-leaves w last name answer
+    heard O (job-ends w last moment (GetJob name) None answer heard O spelled named r)
 jobs-leave (DropJob name) None w last moment answer heard spelled named O r =
     (let f = drop-has 8 w name r.begins.1 in
     drop-leaves w last name answer heard O
@@ -178,8 +167,7 @@ jobs-leave AuditJob None w last moment answer heard spelled named O r =
     audits-leave w last moment answer heard O r
 jobs-leave RepairJob None w last moment answer heard spelled named O r =
     repairs-leave w last moment answer heard O r
-jobs-leave UpgradeJob None w last moment answer heard spelled named O r =
-    upgrade-leaves w last answer heard O
+jobs-leave UpgradeJob None w last moment answer heard spelled named O r = upgrade-leaves w last answer heard O
     (job-ends w last moment UpgradeJob None answer heard O spelled named r)
 jobs-leave kind (Some p) w last moment answer heard spelled named O r =
     absurd (others-name-none kind p named (λ n b e. cc))

@@ -1,10 +1,14 @@
 -- What a provider that tells gave a job: what it held, or nothing; and nothing, though something was held, at
 -- most as often as its
 -- count of faults rose.
-use Rattle.job_laws.proofs.Words.{◌≡◌, ℕ, zero, suc, ◌+◌, ◌<◌, ◌≤◌, ◌==◌, ◌&&◌, ◌⊎◌, Bool, true, false, cond, List, [], ◌∷◌, Option, None, Some, refl, ap, sym, subst, ◌∙◌, inl, inr, arith, is_some, is_none, range_with_len, cases_eq, eq-eqb, ne_eqb, sum_by-cons, Each, honest_answer, last_count, Held, Provider, Fetches, Asks, AskGives, FailsToGive, Given, Action, Store, Fetch, Ask, Work, Remove, answer_given, cond_true, cond_false, With, challenge_made, CallsOne, Did, Made, object_made}
+use Rattle.job_laws.proofs.Words.{◌≡◌, ℕ, zero, suc, ◌+◌, ◌<◌, ◌≤◌, ◌==◌, ◌&&◌, ◌⊎◌, Bool, true, false, cond, List, [], ◌∷◌, Option, None, Some, refl, ap, sym, subst, ◌∙◌, inl, inr, arith, is_some, is_none, range_with_len, cases_eq, eq-eqb, ne_eqb, sum_by-cons, Each, honest_answer, last_count, Held, Provider, Fetches, Asks, FailsToGive, Given, Action, Store, Fetch, Ask, Work, Remove, answer_given, cond_true, cond_false, With, challenge_made, CallsOne, Did, Made, object_made, IfSome}
 use Rattle.std.proofs.Common.{map, sum_by}
 use Rattle.job_laws.proofs.Providers.{Rises, rises-same, rises-more, called-rises, made-keeps}
 use Rattle.job_laws.proofs.Heard.{IsOver, AreDistinct, answer-later, answer-newest}
+
+pub if-some : {A : Type 0} (h : Option A) (P : A → Type 0) → ((a : A) → h ≡ Some a → P a) → IfSome h P
+if-some None P f = tt
+if-some (Some a) P f = f a refl
 
 -- the call of the very provider, and of another one
 pub call-hit : (old : ℕ → Provider) (j : ℕ) (call : Provider → Provider → Type 0) (new : ℕ → Provider) →
@@ -94,19 +98,19 @@ module _ (x : With) (j : ℕ) (held : Held) (now : List Given) where
     held_is = c.held ∙ h;
     count = λ l. (let one : lack_at x now held j (Ask k o r) ≡ lacks symbol (honest_answer (challenge_made x o
         r) (held o)) =
-        cc (cond_true (k == j) (lacks (answer_given now o r k) (honest_answer (challenge_made x o r)
-        (held o))) 0 (eq-eqb k j hit)) in elim gives [
-          | inl g ↦ (omega (arith, lacks-same symbol (honest_answer (challenge_made x o r) (held o)) g, one))
-          | inr f ↦ (let z = lacks-few symbol (honest_answer (challenge_made x o r) (held o)) in
-              let low = c.counts.other_faults in let up = f.1 (omega (arith, low, l)) in
-              omega (arith, one, z, up))
+        cc (cond_true (k == j) (lacks (answer_given now o r k) _) 0 (eq-eqb k j hit)) in elim gives [
+          | inl g ↦ (omega (arith, lacks-same symbol _ g))
+          | inr f ↦ (let low = c.counts.other_faults in omega (
+            arith,
+            lacks-few symbol (honest_answer (challenge_made x o r) (held o)),
+            f.1 (omega (arith, low, l)),
+          ))
         ]);
   }
     where
       gives : (symbol ≡ honest_answer (challenge_made x o r) (held o)) ⊎ FailsToGive p symbol q
       gives = elim c.gives [
-        | inl g ↦
-            inl (subst (λ t. AskGives (honest_answer (challenge_made x o r)) o t symbol) h g)
+        | inl g ↦ inl (rw h at g)
         | inr f ↦ inr f
       ]
 
@@ -123,17 +127,16 @@ module _ (x : With) (j : ℕ) (held : Held) (now : List Given) where
       elim (cases_eq k j) [
         | inl hit ↦ ask-step k o r symbol (old j) (mid j) hit
             (cc (answer-later x actions mid new so_far now k o r rest over, answer-newest k o r symbol given))
-            h (subst (λ n. Asks (honest_answer (challenge_made x o r)) o (old n) symbol (mid n)) hit
-            (call-hit old k (λ p q. Asks (honest_answer (challenge_made x o r)) o p symbol q) mid called))
+            h (rw hit at (call-hit old k (λ p q. Asks (honest_answer (challenge_made x o r)) o p symbol q) mid
+            called))
         | inr miss ↦ other-ask k o r (old j) (mid j) miss
             (call-miss old k (λ p q. Asks (honest_answer (challenge_made x o r)) o p symbol q) mid j miss
-            called)
-            h
+            called) h
       ]
   one-step (Fetch k o s) actions old mid new given so_far quiet over (block, called, is) rest h =
       elim (cases_eq k j) [
-        | inl hit ↦ (let c = subst (λ n. Fetches (object_made x o).profile.size o s (old n) block (mid n)) hit
-            (call-hit old k (λ p q. Fetches (object_made x o).profile.size o s p block q) mid called) in
+        | inl hit ↦ (let c = rw hit at (call-hit old k (λ p q. Fetches (object_made x o).profile.size o s p
+            block q) mid called) in
             record {
               told = tt;
               held_is = c.held ∙ h;
@@ -158,18 +161,13 @@ module _ (x : With) (j : ℕ) (held : Held) (now : List Given) where
       ((new j).other_faults < last_count →
       (old j).other_faults + sum_by (lack_at x now held j) actions ≤ (new j).other_faults)
   asks-told [] old new given quiet d m h =
-      (tt, λ l. (let e = ap (λ (f : ℕ → Provider). (f j).other_faults) m.0 in omega (arith, e)))
+      (tt, λ l. (omega (arith, ap (λ (f : ℕ → Provider). (f j).other_faults) m.0)))
   asks-told (a ∷ actions) old new given quiet d (mid, so_far, did, rest) h =
       (let s = one-step a actions old mid new given so_far quiet.0 d.0 did rest h in
       let r = asks-told actions mid new so_far quiet.1 d.1 rest s.held_is in
       let up = (made-rises x actions mid new so_far now j rest).1 in (
         (s.told, r.0),
-        λ l. (omega (
-          arith,
-          s.count (omega (arith, up, l)),
-          r.1 l,
-          sum_by-cons (lack_at x now held j) a actions,
-        )),
+        λ l. (omega (arith, sum_by-cons (lack_at x now held j) a actions)),
       ))
 
 -- ---- sums over a range of which one number counts
@@ -178,8 +176,7 @@ range-miss : (j v : ℕ) (f : Action → ℕ) (g : ℕ → Action) (a n : ℕ) �
     j < a → sum_by f (map g (range_with_len a n)) ≡ 0
 range-miss j v f g a zero h l = refl
 range-miss j v f g a (suc n) h l = sum_by-cons f (g a) (map g (range_with_len (a + 1) n))
-    ∙ (let e = h a (λ e. omega (arith, e, l)) in let r = range-miss j v f g (a + 1) n h (omega (arith, l)) in
-    omega (arith, e, r))
+    ∙ (omega (arith, h a (λ e. omega (arith, e, l)), range-miss j v f g (a + 1) n h (omega (arith, l))))
 
 -- of a range of which one number counts the sum is that number's
 pub range-hit : (j : ℕ) (f : Action → ℕ) (g : ℕ → Action) (a n : ℕ) → ((k : ℕ) → (k ≡ j → ⊥) → f (g k) ≡ 0) →
@@ -187,12 +184,6 @@ pub range-hit : (j : ℕ) (f : Action → ℕ) (g : ℕ → Action) (a n : ℕ) 
 range-hit j f g a zero h l u = absurd (omega (arith, l, u))
 range-hit j f g a (suc n) h l u =
     sum_by-cons f (g a) (map g (range_with_len (a + 1) n)) ∙ elim (cases_eq a j) [
-      | inl e ↦ (let r = range-miss j 0 f g (a + 1) n h (omega (arith, e)) in let s = ap (λ k. f (g k)) e in
-          omega (arith, r, s))
-      | inr n0 ↦ (omega (
-        arith,
-        h a n0,
-        range-hit j f g (a + 1) n h (omega (arith, l, n0))
-            (omega (arith, u)),
-      ))
+      | inl e ↦ (omega (arith, range-miss j 0 f g (a + 1) n h (omega (arith, e)), ap (λ k. f (g k)) e))
+      | inr n0 ↦ (omega (arith, range-hit j f g (a + 1) n h (omega arith) (omega arith)))
     ]

@@ -69,18 +69,16 @@ module _ (start new : State) (how : Answer) (heard : List Entry) (O : IsOpenAtRe
   -- one that was cut off
   upgrade-moved : (action : Action) → E.action ≡ action →
       Moves E.before E.job action E.before.append (Ended how) new → Gives how
-  upgrade-moved action at h = move-ends O E Gives action at
-      (λ failed F. (
-        rose-before start.disk_faults E.before.disk_faults new.disk_faults E.walked.disk F.low F.rose,
-        one-doubted O E.walked refl new heard F,
-        same-held,
-      ))
+  upgrade-moved action at h = move-ends O E Gives action at (λ failed F. (
+    rose-before start.disk_faults E.before.disk_faults new.disk_faults E.walked.disk F.low F.rose,
+    one-doubted O E.walked refl new heard F,
+    same-held,
+  ))
       (λ N. (one-cut O E.walked refl new heard N.left N.records N.doubt, same-held)) h
 
   none-acts : (action : Action) → E.action ≡ action → (action ≡ End → ⊥) → (IsStill action → ⊥) → ⊥
-  none-acts action at n none = none
-      (each_get IsStill (actions_of (setup_in start) E.job) E.job.place action still-list
-      (listed E action at n))
+  none-acts action at n none = none (each_get IsStill (actions_of (setup_in start) E.job) E.job.place action
+      still-list (listed E action at n))
 
   gives : Gives how
   gives = act-ends E Gives (upgrade-ends how) (λ action at move tail h. upgrade-moved action at h)

@@ -11,8 +11,7 @@ front_same zero cells image firm is = refl
 front_same (suc n) [] [] firm is = refl
 front_same (suc n) [] (b ∷ image) firm is = absurd is
 front_same (suc n) (c ∷ cells) [] firm is = absurd is
-front_same (suc n) (c ∷ cells) (b ∷ image) firm is =
-    (let same : b ≡ c.0 = is.0 (firm 0 (omega arith)) in
+front_same (suc n) (c ∷ cells) (b ∷ image) firm is = (let same : b ≡ c.0 = is.0 (firm 0 (omega arith)) in
     let more = front_same n cells image (λ k l. firm (suc k) (omega (arith, l))) is.1 in
     (λ i. sym same i ∷ more i))
 
@@ -29,9 +28,7 @@ part_same (suc at) n (c ∷ cells) (b ∷ image) firm is = part_same at n cells 
 pub images_stand : (area : Area) (rs : List Record) (cells : Cells) → StandsActive (reads cells) area rs →
     AreFirm 0 8 cells → AreFirm (base_of area) (suc (length (entries rs))) cells →
     (image : List ℕ) → IsImage cells image → StandsActive image area rs
-images_stand area rs cells stands front text image is =
-    active_again area rs (reads cells) image
-    (record {
-      front = part_same 0 8 cells image front is;
-      text = part_same (base_of area) (suc (length (entries rs))) cells image text is;
-    }) stands
+images_stand area rs cells stands front text image is = active_again area rs (reads cells) image (record {
+  front = part_same 0 8 cells image front is;
+  text = part_same (base_of area) (suc (length (entries rs))) cells image text is;
+}) stands

@@ -64,10 +64,8 @@ some-cells front rest cells c is = omega (arith, ap length is, length-append fro
 -- in the course of an append its gate is there
 longer : (n : ℕ) (front body : List ℕ) (cells : Cells) → IsAfterMoves n front body cells → 1 ≤ length cells
 longer zero front body cells h = some-cells (firm front) h.1 cells (h.0, false) h.3
-longer (suc zero) front body cells h =
-    some-cells (firm front) (loose body ++ h.1) cells (h.0, false) h.3
-longer (suc (suc zero)) front body cells h =
-    some-cells (firm front) (firm body ++ h.1) cells (h.0, false) h.3
+longer (suc zero) front body cells h = some-cells (firm front) (loose body ++ h.1) cells (h.0, false) h.3
+longer (suc (suc zero)) front body cells h = some-cells (firm front) (firm body ++ h.1) cells (h.0, false) h.3
 longer (suc (suc (suc zero))) front body cells h =
     some-cells (firm front) (firm body ++ h.0) cells (1, true) h.1
 longer (suc (suc (suc (suc n)))) front body cells h =

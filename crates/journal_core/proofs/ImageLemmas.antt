@@ -68,8 +68,7 @@ module _ (area : Area) (rs : List Record) (r : Record) (all : IsTrue (list_all i
       ∙ ap (λ (l : List ℕ). front ++ (s.0 ∷ l)) behind.1 in
       elim (cases_eq s.0 1) [
         | inl opened ↦ inr (with_entry s.0 behind.0 image opened whole)
-        | inr shut ↦
-            inl (without s.0 (body ++ behind.0) image shut whole)
+        | inr shut ↦ inl (without s.0 (body ++ behind.0) image shut whole)
       ]
 
   -- once an append is done, the area has the text with its record

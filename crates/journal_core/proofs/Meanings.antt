@@ -12,14 +12,12 @@ forward (r ∷ rs) = 1 ∷ (spelling r ++ forward rs)
 
 forward-push : (rs : List Record) (r : Record) → forward (rs ++ (r ∷ [])) ≡ forward rs ++ (1 ∷ spelling r)
 forward-push [] r = ap (λ (l : List ℕ). 1 ∷ l) (append-nil (spelling r))
-forward-push (s ∷ rs) r = ap (λ (l : List ℕ). 1 ∷ l)
-    (ap (λ (l : List ℕ). spelling s ++ l) (forward-push rs r)
+forward-push (s ∷ rs) r = ap (λ (l : List ℕ). 1 ∷ l) (ap (λ (l : List ℕ). spelling s ++ l) (forward-push rs r)
     ∙ sym (append_assoc (spelling s) (forward rs) (1 ∷ spelling r)))
 
 in_order : (rs : List Record) → entries rs ≡ forward (reverse rs)
 in_order [] = refl
-in_order (r ∷ rs) =
-    ap (λ (l : List ℕ). l ++ (1 ∷ spelling r)) (in_order rs)
+in_order (r ∷ rs) = ap (λ (l : List ℕ). l ++ (1 ∷ spelling r)) (in_order rs)
     ∙ sym (forward-push (reverse rs) r)
     ∙ ap forward (sym (reverse-append (r ∷ []) rs))
 
@@ -84,9 +82,8 @@ no_gap [] (s ∷ b) h x y all_a all_b none shut e =
     none s (spelling s) (forward b ++ (h ∷ y)) (spelled s (good-head s b all_b))
     (behind ∙ append_assoc (spelling s) (forward b) (h ∷ y))
 no_gap (r ∷ a) [] h x y all_a all_b none shut e = shut (let head : h ≡ 1 = cc in head)
-no_gap (r ∷ a) (s ∷ b) h x y all_a all_b none shut e =
-    no_gap a b h x y (good-tail r a all_a) (good-tail s b all_b) none shut
-    (one r s a b (1 ∷ x) (h ∷ y) all_a all_b e).1
+no_gap (r ∷ a) (s ∷ b) h x y all_a all_b none shut e = no_gap a b h x y (good-tail r a all_a)
+    (good-tail s b all_b) none shut (one r s a b (1 ∷ x) (h ∷ y) all_a all_b e).1
 
 -- bytes do not both end at a gate and go on without a record
 no_end_gap : (a b : List Record) (x : List ℕ) → Good a → Good b → SpellsNone x →
@@ -143,25 +140,21 @@ module _ (bytes : List ℕ) (area : Area) where
 
   -- where the bytes of an area end at a gate, it holds no records
   ends_hold_none : (at : ℕ) (b : List Record) → EndsIn bytes area at → HoldsIn bytes area b → ⊥
-  ends_hold_none at b ends for_b =
-      no_end (reverse ends.records) (reverse b) for_b.gate for_b.rest
+  ends_hold_none at b ends for_b = no_end (reverse ends.records) (reverse b) for_b.gate for_b.rest
       (good-reverse ends.records ends.in_grammar) (good-reverse b for_b.in_grammar) for_b.closed
       (cancel_end ends.records b (for_b.gate ∷ for_b.rest) (drop (base_of area) bytes) ends.bytes_are
       for_b.bytes_are)
 
   -- where no record stands behind an open gate, it holds none either
   breaks_hold_none : (at : ℕ) (b : List Record) → BreaksIn bytes area at → HoldsIn bytes area b → ⊥
-  breaks_hold_none at b breaks for_b =
-      no_gap (reverse breaks.records) (reverse b) for_b.gate breaks.rest for_b.rest
-      (good-reverse breaks.records breaks.in_grammar) (good-reverse b for_b.in_grammar) breaks.none
-      for_b.closed
-      (cancel breaks.records b (1 ∷ breaks.rest) (for_b.gate ∷ for_b.rest) (drop (base_of area) bytes)
-      breaks.bytes_are for_b.bytes_are)
+  breaks_hold_none at b breaks for_b = no_gap (reverse breaks.records) (reverse b) for_b.gate breaks.rest
+      for_b.rest (good-reverse breaks.records breaks.in_grammar) (good-reverse b for_b.in_grammar) breaks.none
+      for_b.closed (cancel breaks.records b (1 ∷ breaks.rest) (for_b.gate ∷ for_b.rest)
+      (drop (base_of area) bytes) breaks.bytes_are for_b.bytes_are)
 
   -- the bytes of an area do not both end at a gate and break behind one
   pub not_both : (at other : ℕ) → EndsIn bytes area at → BreaksIn bytes area other → ⊥
-  not_both at other ends breaks =
-      no_end_gap (reverse ends.records) (reverse breaks.records) breaks.rest
+  not_both at other ends breaks = no_end_gap (reverse ends.records) (reverse breaks.records) breaks.rest
       (good-reverse ends.records ends.in_grammar) (good-reverse breaks.records breaks.in_grammar) breaks.none
       (cancel_end ends.records breaks.records (1 ∷ breaks.rest) (drop (base_of area) bytes) ends.bytes_are
       breaks.bytes_are)
@@ -175,14 +168,7 @@ module _ (bytes : List ℕ) (area : Area) where
       (good-reverse a.records a.in_grammar) (good-reverse b.records b.in_grammar) a.none b.none
       (cancel a.records b.records (1 ∷ a.rest) (1 ∷ b.rest) (drop (base_of area) bytes) a.bytes_are
       b.bytes_are) in
-      omega (
-        arith,
-        a.place,
-        b.place,
-        same,
-        ap length (in_order a.records),
-        ap length (in_order b.records),
-      )
+      omega (arith, a.place, b.place, same, ap length (in_order a.records), ap length (in_order b.records))
 
   -- an area fails at one place at most
   fails_once : (at other : ℕ) → EndsIn bytes area at ⊎ BreaksIn bytes area at →

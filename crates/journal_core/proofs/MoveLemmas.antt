@@ -79,8 +79,7 @@ module _ (front body : List ℕ) where
   sync_around : (c : ℕ × Bool) (middle rest : Cells) →
       settled (firm front ++ (c ∷ (middle ++ rest)))
       ≡ firm front ++ ((c.0, false) ∷ (settled middle ++ settled rest))
-  sync_around c middle rest =
-      settled-append (firm front) (c ∷ (middle ++ rest))
+  sync_around c middle rest = settled-append (firm front) (c ∷ (middle ++ rest))
       ∙ ap (λ (l : Cells). l ++ ((c.0, false) ∷ settled (middle ++ rest))) (settled-firm front)
       ∙ ap (λ (l : Cells). firm front ++ ((c.0, false) ∷ l)) (settled-append middle rest)
 
@@ -105,13 +104,11 @@ module _ (front body : List ℕ) where
       new ≡ option_map settled old → IfSome old (IsAfterMoves moves front body) →
       IfSome new (IsAfterMoves (moves + 1) front body)
   synced zero no_start no_gate few old new is held = absurd (no_start refl)
-  synced (suc zero) no_start no_gate few old new is held =
-      IfSome-mapped (IsAfterMoves 1 front body) (IsAfterMoves 2 front body) settled body_synced old new is
-      held
+  synced (suc zero) no_start no_gate few old new is held = IfSome-mapped (IsAfterMoves 1 front body)
+      (IsAfterMoves 2 front body) settled body_synced old new is held
   synced (suc (suc zero)) no_start no_gate few old new is held = absurd (no_gate refl)
-  synced (suc (suc (suc zero))) no_start no_gate few old new is held =
-      IfSome-mapped (IsAfterMoves 3 front body) (IsAfterMoves 4 front body) settled gate_synced old new is
-      held
+  synced (suc (suc (suc zero))) no_start no_gate few old new is held = IfSome-mapped
+      (IsAfterMoves 3 front body) (IsAfterMoves 4 front body) settled gate_synced old new is held
   synced (suc (suc (suc (suc n)))) no_start no_gate few old new is held = absurd (omega arith)
 
 -- a statement that holds anyway holds on an Err

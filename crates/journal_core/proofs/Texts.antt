@@ -160,8 +160,7 @@ switching-settled area cells s = record {
 pub text-image : (area : Area) (rs : List Record) (cells : Cells) (image : List ℕ) → HasText cells area rs →
     IsImage cells image → HoldsIn image area rs
 text-image area rs cells image t of = behind (IsImage-firm (entries rs) ((t.gate, false) ∷ t.rest)
-    (drop (base_of area) image)
-    (subst (λ (c : Cells). IsImage c (drop (base_of area) image)) t.cells_are
+    (drop (base_of area) image) (subst (λ (c : Cells). IsImage c (drop (base_of area) image)) t.cells_are
     (IsImage-drop (base_of area) cells image of)))
   where
     behind : (tail : List ℕ) × (drop (base_of area) image ≡ entries rs ++ tail) ×

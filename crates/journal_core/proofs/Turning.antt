@@ -81,16 +81,14 @@ module _ (area : Area) (rs : List Record) (r : Record) (a b : Append) (result : 
   keeps-records = record {
     moved = moved;
     given_up = given_up;
-    before = λ less. either_way result
-        (both_ok result (λ next on. before-in area rs r on.records on.entry (body_of b) on.body (moves_of b) new
-        (omega (arith, next, less)) on.disk) t.count.next moved)
+    before = λ less. either_way result (both_ok result (λ next on. before-in area rs r on.records on.entry
+        (body_of b) on.body (moves_of b) new (omega (arith, next, less)) on.disk) t.count.next moved)
         (on_err_weaker result (λ held. before-given-in area rs r is.records is.entry (body_of a) is.body
         (moves_of a) new less held) given_up);
-    between = either_way result
-        (on_ok_weaker result (λ on. between-in area rs r on.records on.entry (body_of b) on.body (moves_of b) new
-        on.disk) moved)
-        (on_err_weaker result (λ held. between-given-in area rs r is.records is.entry (body_of a) is.body
-        (moves_of a) new held) given_up);
+    between = either_way result (on_ok_weaker result (λ on. between-in area rs r on.records on.entry
+        (body_of b) on.body (moves_of b) new on.disk) moved) (on_err_weaker result
+        (λ held. between-given-in area rs r is.records is.entry (body_of a) is.body (moves_of a) new held)
+        given_up);
     ready = on_ok_weaker result (λ on four. ready-in area rs r on.records on.entry (body_of b) on.body
         (moves_of b) new four on.disk) moved;
     kept = λ memory. kept-in area rs (body_of a) (gate_of a) is.gate is.records (moves_of a) (d.writes memory) old

@@ -86,10 +86,4 @@ pub end-is : (area : Area) (qs : List Record) (p : Pack) → IsTrue (list_all is
     WritesText area qs p → to_of p + length (text_of p) ≡ end_in area qs
 end-is area qs p spelled w =
     let to = w.to in
-    omega (
-      arith,
-      to,
-      ap length w.text,
-      length-append (entries qs) (0 ∷ []),
-      length-entries qs spelled,
-    )
+    omega (arith, to, ap length w.text, length-append (entries qs) (0 ∷ []), length-entries qs spelled)

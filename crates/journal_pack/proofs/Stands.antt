@@ -17,8 +17,7 @@ one_of_two B B = inl refl
 pub switching-stands : (area : Area) (rs qs : List Record) (cells : Cells) (image : List ℕ) (switch : ℕ) →
     IsSwitching cells switch → HasText cells area rs → HasText cells (other_area area) qs →
     IsImage cells image → StandsActive image area rs ⊎ StandsActive image (other_area area) qs
-switching-stands area rs qs cells image switch is old new of =
-    by (switching-image cells image switch is of)
+switching-stands area rs qs cells image switch is old new of = by (switching-image cells image switch is of)
   where
     by : (s : ℕ) × (take 8 image ≡ magic_front ++ s ∷ []) →
         StandsActive image area rs ⊎ StandsActive image (other_area area) qs

@@ -14,8 +14,7 @@ files-push [] f rs = refl
 files-push (g ∷ fs) f rs = files-push fs f (as_record g ∷ rs)
 
 -- the file at a place
-get-at : (fs : List File) (i : ℕ) (f : File) → slice_get fs i ≡ Some f →
-    (i < length fs) × (get_or fs i f ≡ f)
+get-at : (fs : List File) (i : ℕ) (f : File) → slice_get fs i ≡ Some f → (i < length fs) × (get_or fs i f ≡ f)
 get-at [] i f h = absurd cc
 get-at (g ∷ fs) zero f h = (omega arith, (let e : g ≡ f = cc in e))
 get-at (g ∷ fs) (suc i) f h =
@@ -35,9 +34,8 @@ files-next fs i f rs qs h is =
 
 -- the packed journal of a table is that of the records that it folds
 pub packed-folds : (rs : List Entry) (t : Kept) → IsFoldOf rs t → packed_table t ≡ packed rs
-packed-folds rs t is =
-    (λ i. with_due (is.due i) (with_files (is.files i)
-    (Resume (is.id i) (is.audit i) ∷ Version ∷ with_setup (is.setup i))))
+packed-folds rs t is = (λ i. with_due (is.due i)
+    (with_files (is.files i) (Resume (is.id i) (is.audit i) ∷ Version ∷ with_setup (is.setup i))))
 
 -- what is true of each element in reverse is true of each
 all-reverse : {X : Type 0} (p : X → Bool) (xs : List X) → list_all p (reverse xs) ≡ true →
@@ -94,9 +92,8 @@ are-spelled records each = reverse-all is_in_grammar (map entry_of records) (ent
 -- so their text is as long as is told
 pub text-long : (records : List Record) → All IsInGrammar records →
     length (entries (newest_first records) ++ 0 ∷ []) ≡ entries_size (newest_first records) + 1
-text-long records each =
-    omega (
-      arith,
-      length-append (entries (newest_first records)) (0 ∷ []),
-      length-entries (newest_first records) (are-spelled records each),
-    )
+text-long records each = omega (
+  arith,
+  length-append (entries (newest_first records)) (0 ∷ []),
+  length-entries (newest_first records) (are-spelled records each),
+)

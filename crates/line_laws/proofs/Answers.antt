@@ -7,8 +7,7 @@ use Rattle.line_laws.proofs.Marks.{differ}
 -- a number, and what is behind it up to the end of the line
 pub number-next : (m n : ℕ) (x y : List ℕ) → IsShortNumber n → IsBehind (line x) → IsBehind (line y) →
     line (decimal m ++ x) ≡ line (decimal n ++ y) → (m ≡ n) × (line x ≡ line y)
-number-next m n x y small behind after same =
-    number-split m n (line x) (line y) small behind after
+number-next m n x y small behind after same = number-split m n (line x) (line y) small behind after
     (sym (append_assoc (decimal m) x (10 ∷ [])) ∙ same ∙ append_assoc (decimal n) y (10 ∷ []))
 
 -- numbers behind each other

@@ -42,8 +42,7 @@ ten-pow (suc k) = omega (arith, ten-pow k, pow-suc 10 k)
 -- a number that has more digits than are written has that many
 full : (k n : ℕ) (acc : List ℕ) → 10 ^ k ≤ n → length (digits_onto k 10 false n acc) ≡ k + length acc
 full zero n acc large = omega arith
-full (suc k) n acc large =
-    by (n / 10 == 0) refl
+full (suc k) n acc large = by (n / 10 == 0) refl
     (full k (n / 10) (digit_glyph false (n % 10) ∷ acc) (omega (arith, large, pow-suc 10 k)))
   where
     last : List ℕ
@@ -64,8 +63,7 @@ pub decimal-tells : (m n : ℕ) → n < 2 ^ 64 → decimal m ≡ decimal n → m
 decimal-tells m n small same = by (cases_lt m (10 ^ 64))
   where
     by : (m < 10 ^ 64) ⊎ (10 ^ 64 ≤ m) → m ≡ n
-    by (inl few) =
-        sym (decimal_is_IsNumeral_wide m few).1 ∙ ap (digits_value 10) same
+    by (inl few) = sym (decimal_is_IsNumeral_wide m few).1 ∙ ap (digits_value 10) same
         ∙ (decimal_is_IsNumeral_wide n (omega (arith, small))).1
     by (inr many) =
         let short = length-decimal-le 20 n (omega arith) (omega (arith, small)) small in
@@ -99,8 +97,7 @@ number-split m n x y small behind after same =
 
 -- a number that ends a line
 pub number-tells : (m n : ℕ) → n < 2 ^ 64 → line (decimal m) ≡ line (decimal n) → m ≡ n
-number-tells m n small same =
-    (number-split m n (10 ∷ []) (10 ∷ []) small (omega arith) (omega arith) same).0
+number-tells m n small same = (number-split m n (10 ∷ []) (10 ∷ []) small (omega arith) (omega arith) same).0
 
 -- ---- bytes
 

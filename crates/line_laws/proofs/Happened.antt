@@ -163,12 +163,10 @@ module _ (old new : State) where
   happened limit moment (BeginAt profile name bytes) r asks h =
       begins limit moment (PutJob name bytes) (Some profile) r h
   happened limit moment (Step number) r asks h = steps number old.is_open r h
-  happened limit moment (Alter j object stripe place symbol) r asks h =
-      replaces_if (nat_lt j old.handed) j (λ held. HasPlace (held object stripe) place)
-      (with_symbol object stripe place symbol) r h
-  happened limit moment (Lose j object stripe) r asks h =
-      replaces_if (nat_lt j old.handed) j (λ held. IsSome (held object stripe))
-      (without_block object stripe) r h
+  happened limit moment (Alter j object stripe place symbol) r asks h = replaces_if (nat_lt j old.handed) j
+      (λ held. HasPlace (held object stripe) place) (with_symbol object stripe place symbol) r h
+  happened limit moment (Lose j object stripe) r asks h = replaces_if (nat_lt j old.handed) j
+      (λ held. IsSome (held object stripe)) (without_block object stripe) r h
   happened limit moment (Stop picks) r asks h = stops r h
   happened limit moment Reopen r asks h = reopens r h
   happened limit moment Names r asks h = absurd asks

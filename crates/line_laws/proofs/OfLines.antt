@@ -16,8 +16,7 @@ files (f ∷ fs) =
 
 -- an outcome
 pub outcome-lines : (r : Outcome) → IsOfLines (lines_of r)
-outcome-lines (Listed fs) =
-    joined (line (codes "names" ++ then_number (length fs))) (flat_map file_line fs)
+outcome-lines (Listed fs) = joined (line (codes "names" ++ then_number (length fs))) (flat_map file_line fs)
     (inr (codes "names" ++ then_number (length fs), refl)) (files fs)
 outcome-lines Continued = inl refl
 outcome-lines r = let text = one-line r tt in inr (text.0, text.2)
@@ -26,9 +25,7 @@ outcome-lines r = let text = one-line r tt in inr (text.0, text.2)
 pub run-lines : (commands : List Instruction) (ms : List Moment) (bytes : List ℕ) →
     CarriesOut commands ms bytes → IsOfLines bytes
 run-lines [] ms bytes C = inl C.1
-run-lines (Once event ∷ commands) ms bytes C =
-    subst IsOfLines (sym C.6)
+run-lines (Once event ∷ commands) ms bytes C = subst IsOfLines (sym C.6)
     (joined C.2 (lines_of C.0.outcome) (run-lines commands C.1 C.2 C.5) (outcome-lines C.0.outcome))
-run-lines (RunJob job ∷ commands) ms bytes C =
-    subst IsOfLines (sym C.7)
+run-lines (RunJob job ∷ commands) ms bytes C = subst IsOfLines (sym C.7)
     (joined C.3 (lines_of C.0.outcome) (run-lines commands C.2 C.3 C.6) (outcome-lines C.0.outcome))

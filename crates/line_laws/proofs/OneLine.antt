@@ -59,8 +59,7 @@ answer (Audited n undecided counts) =
     (append open_word (then_number undecided) free (number undecided)) (by-test (codes " counts") refl) in
     append (both ++ codes " counts") (flat_map then_number counts) clear (numbers counts)
 answer (Repaired n) = behind (codes "repaired") (then_number n) refl (number n)
-answer (Lost stripe row) =
-    append (codes "lost" ++ then_number stripe) (then_number row)
+answer (Lost stripe row) = append (codes "lost" ++ then_number stripe) (then_number row)
     (behind (codes "lost") (then_number stripe) refl (number stripe)) (number row)
 answer (ProviderFault p) = behind (codes "provider fault") (then_number p) refl (number p)
 answer (Scrubbed stripes symbols blocks) =
@@ -69,8 +68,7 @@ answer (Scrubbed stripes symbols blocks) =
     (behind (codes "scrubbed") (then_number stripes) refl (number stripes))
     (by-test (codes " symbols") refl) in
     append (named ++ codes " symbols") (flat_map then_number symbols) free (numbers symbols)
-answer (Packed before after) =
-    append (codes "packed" ++ then_number before) (then_number after)
+answer (Packed before after) = append (codes "packed" ++ then_number before) (then_number after)
     (behind (codes "packed") (then_number before) refl (number before)) (number after)
 answer how = by-test (answer_text how) refl
 

@@ -22,9 +22,8 @@ not-nothing r front one none =
 -- the newest moment of a run
 newest-one : (limit : ℕ) (start : State) (m : Moment) (ms : List Moment) (event : Event) → m.event ≡ event →
     AsksForOneLine event → IsRun limit start (m ∷ ms) → WritesOneLine m.outcome
-newest-one limit start m ms event is asks run =
-    happened (now start ms) m.state limit (length ms) m.event m.outcome (subst AsksForOneLine (sym is) asks)
-    run.1
+newest-one limit start m ms event is asks run = happened (now start ms) m.state limit (length ms) m.event
+    m.outcome (subst AsksForOneLine (sym is) asks) run.1
 
 told-one : (r s : Outcome) (before : List ℕ) (ss : List Outcome) → WritesOneLine r → IsToldByLine s →
     IsOfLines before → before ++ lines_of r ≡ lines_of_all (s ∷ ss) → (before ≡ lines_of_all ss) × (r ≡ s)
@@ -73,8 +72,7 @@ module _ (limit : ℕ) (start : State) (base : List Moment) where
       (front ++ before ≡ other ++ lines_of_all ss) × (r ≡ s)
   one-behind r s front other before ss one told whole ahead of same =
       last-told r s (front ++ before) (other ++ lines_of_all ss) one told (joined front before whole of)
-      (joined other (lines_of_all ss) ahead (written-lines ss))
-      (append_assoc front before (lines_of r)
+      (joined other (lines_of_all ss) ahead (written-lines ss)) (append_assoc front before (lines_of r)
       ∙ (same ∙ sym (append_assoc other (lines_of_all ss) (lines_of s))))
 
   -- so they are behind any text of whole lines, as many as commands, and what stands before them is that text

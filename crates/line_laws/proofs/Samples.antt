@@ -26,8 +26,7 @@ read-got r same = lines-tell r (Ended (Got (111 ∷ []))) tt same
 pub read-last : (r : Outcome) (front : List ℕ) → WritesOneLine r → IsOfLines front →
     front ++ lines_of r ≡ line (codes "job 2") ++ line (codes "got 6f") →
     (front ≡ line (codes "job 2")) × (r ≡ Ended (Got (111 ∷ [])))
-read-last r front one of same =
-    last-told r (Ended (Got (111 ∷ []))) front (line (codes "job 2")) one tt of
+read-last r front one of same = last-told r (Ended (Got (111 ∷ []))) front (line (codes "job 2")) one tt of
     (inr (codes "job 2", refl)) same
 
 -- a file whose line in a list is that of a begin

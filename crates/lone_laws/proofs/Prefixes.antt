@@ -21,8 +21,7 @@ use Rattle.lone_laws.proofs.Lists.{take-append-add}
 put-front : (s : Setup) (job : Job) (bytes : List ℕ) (p : ℕ) → p ≡ 8 + length (store_actions s job bytes) →
     take p (append_actions ++ put_rest s job bytes)
     ≡ append_actions ++ (store_actions s job bytes ++ append_actions)
-put-front s job bytes p e =
-    ap (λ n. take n (append_actions ++ put_rest s job bytes))
+put-front s job bytes p e = ap (λ n. take n (append_actions ++ put_rest s job bytes))
     (let f : p ≡ 4 + (length (store_actions s job bytes) + (4 + 0)) = omega (arith, e) in f)
     ∙ (take-append-add append_actions (put_rest s job bytes) (length (store_actions s job bytes) + (4 + 0))
     ∙ ap (λ xs. append_actions ++ xs)
@@ -45,16 +44,14 @@ module _ (w : State) (job : Job) (older : List ℕ) (next : next_action w job �
       ∙ sym (put-list (setup_in w) job name bytes kind)))
 
   put-later_front : (name bytes : List ℕ) → job.kind ≡ PutJob name bytes → 4 ≤ job.place → SameFront
-  put-later_front name bytes kind l =
-      (let at = gate_place w job name bytes kind next l in
+  put-later_front name bytes kind l = (let at = gate_place w job name bytes kind next l in
       ap (take (job.place + 1)) (put-list (setup_in w) (decided job older) name bytes kind)
       ∙ (put-front (setup_in w) (decided job older) bytes (job.place + 1) (omega (arith, at))
       ∙ (sym (put-front (setup_in w) job bytes (job.place + 1) (omega (arith, at)))
       ∙ ap (take (job.place + 1)) (sym (put-list (setup_in w) job name bytes kind)))))
 
   drop-front : (name : List ℕ) → job.kind ≡ DropJob name → SameFront
-  drop-front name kind =
-      (let at = drop-gate (setup_in w) job job.place
+  drop-front name kind = (let at = drop-gate (setup_in w) job job.place
       (ap (λ xs. slice_get xs job.place) (sym (drop-list (setup_in w) job name kind))
       ∙ next_stands w job SyncGate next not-end) in
       let four : job.place + 1 ≡ 4 + 0 = omega (arith, at) in
@@ -103,14 +100,12 @@ appends-whole w job (DropJob name) kind first =
     ∙ (ap appends_in (drop-list (setup_in w) job name kind)
     ∙ (appends-move (drop_rest (setup_in w) job) ∙ ap (λ n. 1 + n) (appends-removals (setup_in w) job)))
 appends-whole w job AuditJob kind first = audit-first (setup_in w) job kind (omega (arith, first))
-appends-whole w job RepairJob kind first =
-    ap (λ p. appends_in (drop p (actions_of (setup_in w) job))) first
+appends-whole w job RepairJob kind first = ap (λ p. appends_in (drop p (actions_of (setup_in w) job))) first
     ∙ (ap appends_in (repair-list (setup_in w) job kind)
     ∙ (appends-append (repair_actions (setup_in w) job) (append_actions ++ End ∷ [])
     ∙ (let a = appends-others (repair_actions (setup_in w) job) (others-repairs (setup_in w) job) in
     let b = appends-move (End ∷ []) in omega (arith, a, b))))
-appends-whole w job UpgradeJob kind first =
-    ap (λ p. appends_in (drop p (actions_of (setup_in w) job))) first
+appends-whole w job UpgradeJob kind first = ap (λ p. appends_in (drop p (actions_of (setup_in w) job))) first
     ∙ (ap appends_in (upgrade-list (setup_in w) job kind) ∙ appends-move (End ∷ []))
 
 -- ---- an audit whose appends are done
@@ -127,8 +122,7 @@ audit-within (x ∷ xs) (suc p) l = audit-within xs p (omega (arith, l))
 -- an audit whose appends are done has only its end left
 pub audit-over : (w : State) (job : Job) (action : Action) → job.kind ≡ AuditJob →
     appends_left (setup_in w) job ≡ 0 → next_action w job ≡ Some action → (action ≡ End → ⊥) → ⊥
-audit-over w job action kind none next n =
-    (let list = audit-list (setup_in w) job kind in
+audit-over w job action kind none next n = (let list = audit-list (setup_in w) job kind in
     let at : slice_get (append_actions ++ audit_rest (setup_in w) job) job.place ≡ Some action =
     ap (λ xs. slice_get xs job.place) (sym list) ∙ next_stands w job action next n in
     let left : appends_in (drop job.place (append_actions ++ audit_rest (setup_in w) job)) ≡ 0 =
@@ -165,14 +159,11 @@ audit-over w job action kind none next n =
         appends_in (drop p (append_actions ++ audit_rest (setup_in w) job)) ≡ 0 → ⊥
     over zero h e = (let f = appends-move (audit_rest (setup_in w) job) in omega (arith, e, f))
     over (suc zero) h e =
-        (let f = appends-append (SyncBody ∷ WriteGate ∷ SyncGate ∷ [])
-        (audit_rest (setup_in w) job) in let g : appends_in (SyncBody ∷ WriteGate ∷ SyncGate ∷ []) ≡ 1 =
-        refl in omega (arith, e, f, g))
-    over (suc (suc zero)) h e =
-        (let f = appends-append (WriteGate ∷ SyncGate ∷ [])
+        (let f = appends-append (SyncBody ∷ WriteGate ∷ SyncGate ∷ []) (audit_rest (setup_in w) job) in
+        let g : appends_in (SyncBody ∷ WriteGate ∷ SyncGate ∷ []) ≡ 1 = refl in omega (arith, e, f, g))
+    over (suc (suc zero)) h e = (let f = appends-append (WriteGate ∷ SyncGate ∷ [])
         (audit_rest (setup_in w) job) in let g : appends_in (WriteGate ∷ SyncGate ∷ []) ≡ 1 = refl in
         omega (arith, e, f, g))
-    over (suc (suc (suc zero))) h e =
-        (let f = appends-append (SyncGate ∷ []) (audit_rest (setup_in w) job) in let g : appends_in
-        (SyncGate ∷ []) ≡ 1 = refl in omega (arith, e, f, g))
+    over (suc (suc (suc zero))) h e = (let f = appends-append (SyncGate ∷ []) (audit_rest (setup_in w) job) in
+        let g : appends_in (SyncGate ∷ []) ≡ 1 = refl in omega (arith, e, f, g))
     over (suc (suc (suc (suc q)))) h e = rest q h e

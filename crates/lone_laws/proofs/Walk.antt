@@ -60,17 +60,15 @@ only-put kind own (MayName.none none) p e = absurd (let f : None ≡ Some p = sy
 only-put kind own (MayName.put name bytes is) p e = (name, bytes, is)
 
 -- a job that begins in a state just opened is job 1, and stands at its begin; a put may name a profile
-pub walk-begin : (moment number : ℕ) (start new : State) (kind : Kind) (wish : Option ℕ) →
-    MayName kind wish → IsOpenAtRest start 1 → IsSpelledKind kind →
-    BeginsAt 8 moment start kind wish (Begun number) new →
+pub walk-begin : (moment number : ℕ) (start new : State) (kind : Kind) (wish : Option ℕ) → MayName kind wish →
+    IsOpenAtRest start 1 → IsSpelledKind kind → BeginsAt 8 moment start kind wish (Begun number) new →
     (number ≡ 1) × WalkedAt start kind (chosen (setup_in start) wish) new (beginning start moment kind wish)
 walk-begin moment number start new kind wish named O spelled (opened, allowed, is_number, is) = (
   is_number ∙ O.next,
   subst (λ (w : State). WalkedAt start kind (chosen (setup_in start) wish) w
       (beginning start moment kind wish)) (sym is) (record {
         sound = begun-job 8 moment start (opened-sound start O) kind wish (only-put kind wish named) opened
-            allowed spelled
-            (omega arith, omega arith);
+            allowed spelled (omega arith, omega arith);
         opened = opened;
         unbarred = O.rest.idle.2;
         setup = setup_same (record start {
@@ -106,9 +104,8 @@ walk-begin moment number start new kind wish named O spelled (opened, allowed, i
         λ none. absurd (let e = appends-whole start (beginning start moment (PutJob name bytes) wish)
         (PutJob name bytes) refl refl in omega (arith, none, e))
     older (GetJob name) = tt
-    older (DropJob name) =
-        λ none. absurd (let e = appends-whole start (beginning start moment (DropJob name) wish)
-        (DropJob name) refl refl in omega (arith, none, e))
+    older (DropJob name) = λ none. absurd (let e = appends-whole start
+        (beginning start moment (DropJob name) wish) (DropJob name) refl refl in omega (arith, none, e))
     older AuditJob = tt
     older RepairJob = tt
     older UpgradeJob = tt
@@ -138,9 +135,8 @@ module _ (start : State) (O : IsOpenAtRest start 1) (kind : Kind) {profile : ℕ
   pub step-acts : (r : Outcome) (new : State) → ((holder : ℕ) → r ≡ Waiting holder → ⊥) →
       Steps w 1 w.is_open r new → (action : Action) × (next_action w job ≡ Some action) ×
       (holder_of w.append action ≡ None) × Acts w job action r new
-  step-acts r new not_waiting h =
-      on (next_action w job) refl (subst (λ (o : Option Job). StepsJob w o r new) found
-      (subst (λ (o : Option Alone). StepsOne w 1 o r new) none-alone
+  step-acts r new not_waiting h = on (next_action w job) refl (subst (λ (o : Option Job). StepsJob w o r new)
+      found (subst (λ (o : Option Alone). StepsOne w 1 o r new) none-alone
       (subst (λ b. StepsOpen w 1 b r new) W.unbarred (subst (λ b. Steps w 1 b r new) W.opened h))))
     where
       waits : (action : Action) (holder : Option ℕ) (r : Outcome) → ((n : ℕ) → r ≡ Waiting n → ⊥) →
@@ -243,9 +239,8 @@ module _ (start : State) (O : IsOpenAtRest start 1) (kind : Kind) {profile : ℕ
     later = onward job job.subject given
 
     count-same : appends_left (setup_in start) later ≡ appends_left (setup_in start) job
-    count-same = (let a =
-        subst (λ (s : Setup). appends_left s job ≡ gates action + appends_left s later) W.setup
-        (count-onward w job given action next not_end) in
+    count-same = (let a = subst (λ (s : Setup). appends_left s job ≡ gates action + appends_left s later)
+        W.setup (count-onward w job given action next not_end) in
         let b : gates action ≡ 0 = cond_false (ends_append action) 1 0 plain in omega (arith, a, b))
 
     on-subject : (kd : Kind) → kind ≡ kd → HasSubject start kd job → HasSubject start kd later
@@ -298,13 +293,12 @@ module _ (start : State) (O : IsOpenAtRest start 1) (kind : Kind) {profile : ℕ
           providers = providers;
           disk_faults = faults;
         }) later
-    on-walk flight doubt providers faults low did sound =
-        walked-next (record (going_on w later) {
-          append = flight;
-          doubt = doubt;
-          providers = providers;
-          disk_faults = faults;
-        }) later sound refl refl
+    on-walk flight doubt providers faults low did sound = walked-next (record (going_on w later) {
+      append = flight;
+      doubt = doubt;
+      providers = providers;
+      disk_faults = faults;
+    }) later sound refl refl
         (setup_same (record (going_on w later) {
           append = flight;
           doubt = doubt;
@@ -407,9 +401,8 @@ module _ (start : State) (O : IsOpenAtRest start 1) (kind : Kind) {profile : ℕ
             refl)))))
       ]
       by_kind (GetJob name) e h = absurd h
-      by_kind (DropJob name) e h =
-          (let c : appends_left (setup_in w) job ≡ 1 =
-          (let b = drop-first (setup_in w) job name (W.kind_is ∙ e) in omega (arith, b, left)) in
+      by_kind (DropJob name) e h = (let c : appends_left (setup_in w) job ≡ 1
+          = (let b = drop-first (setup_in w) job name (W.kind_is ∙ e) in omega (arith, b, left)) in
           Wrote.first (c ∙ sym (ap (appends_of start) e)) (all-left (DropJob name) 1 e refl c)
           (h ∙ sym (ap (first_record start) e)))
       by_kind AuditJob e h = elim (cases_lt job.place 4) [
@@ -432,15 +425,13 @@ module _ (start : State) (O : IsOpenAtRest start 1) (kind : Kind) {profile : ℕ
                   ∙ ap (λ k. AuditDone k sums.undecided sums.counts) n,
             )))
       ]
-      by_kind RepairJob e h =
-          (let c : appends_left (setup_in w) job ≡ 1 =
-          (let b = repair-first (setup_in w) job (W.kind_is ∙ e) in omega (arith, b, left)) in
+      by_kind RepairJob e h = (let c : appends_left (setup_in w) job ≡ 1
+          = (let b = repair-first (setup_in w) job (W.kind_is ∙ e) in omega (arith, b, left)) in
           Wrote.first (c ∙ sym (ap (appends_of start) e)) (all-left RepairJob 1 e refl c)
           (h ∙ (ap RepairDone (subst (λ kd. HasSubject start kd job) e W.subject)
           ∙ sym (ap (first_record start) e))))
-      by_kind UpgradeJob e h =
-          (let c : appends_left (setup_in w) job ≡ 1 =
-          (let b = upgrade-first (setup_in w) job (W.kind_is ∙ e) in omega (arith, b, left)) in
+      by_kind UpgradeJob e h = (let c : appends_left (setup_in w) job ≡ 1
+          = (let b = upgrade-first (setup_in w) job (W.kind_is ∙ e) in omega (arith, b, left)) in
           Wrote.first (c ∙ sym (ap (appends_of start) e)) (all-left UpgradeJob 1 e refl c)
           (h ∙ sym (ap (first_record start) e)))
 
@@ -532,13 +523,11 @@ module _ (start : State) (O : IsOpenAtRest start 1) (kind : Kind) {profile : ℕ
     first-drawn : (rest : List Action) → actions_of (setup_in start) drawn ≡ append_actions ++ rest →
         job.place ≡ 0 → Made (with_job_at start kind profile drawn)
         (take drawn.place (actions_of (setup_in start) drawn)) start.providers w.providers [] job.given
-    first-drawn rest list zero_place =
-        (let before : Made (with_job_at start kind profile job) [] start.providers w.providers [] job.given =
-        subst (λ p. Made (with_job_at start kind profile job)
-        (take p (actions_of (setup_in start) job)) start.providers w.providers [] job.given)
-        zero_place W.made in
-        subst (λ xs. Made (with_job_at start kind profile drawn) xs start.providers w.providers [] job.given)
-        (sym (ap (λ n. take n (actions_of (setup_in start) drawn))
+    first-drawn rest list zero_place = (let before : Made (with_job_at start kind profile job) []
+        start.providers w.providers [] job.given = subst (λ p. Made (with_job_at start kind profile job)
+        (take p (actions_of (setup_in start) job)) start.providers w.providers [] job.given) zero_place W.made
+        in subst (λ xs. Made (with_job_at start kind profile drawn) xs start.providers w.providers []
+        job.given) (sym (ap (λ n. take n (actions_of (setup_in start) drawn))
         (let f : job.place + 1 ≡ 1 = omega (arith, zero_place) in f) ∙ ap (take 1) list))
         (w.providers, job.given, before, (refl, refl)))
 
@@ -546,9 +535,8 @@ module _ (start : State) (O : IsOpenAtRest start 1) (kind : Kind) {profile : ℕ
         Made (with_job_at start kind profile drawn) (take drawn.place (actions_of (setup_in start) drawn))
         start.providers w.providers [] job.given
     body-made (PutJob name bytes) e = elim (cases_lt job.place 4) [
-      | inl l ↦ first-drawn (put_rest (setup_in start) drawn bytes)
-          (put-list (setup_in start) drawn name bytes (W.kind_is ∙ e))
-          (body-within (put_rest (setup_in w) job bytes) job.place l
+      | inl l ↦ first-drawn (put_rest (setup_in start) drawn bytes) (put-list (setup_in start) drawn name
+          bytes (W.kind_is ∙ e)) (body-within (put_rest (setup_in w) job bytes) job.place l
           (ap (λ xs. slice_get xs job.place) (sym (put-list (setup_in w) job name bytes (W.kind_is ∙ e)))
           ∙ next_stands w job WriteBody next (λ f. cc)))
       | inr l ↦ same-drawn (drawn-later l)
@@ -556,9 +544,8 @@ module _ (start : State) (O : IsOpenAtRest start 1) (kind : Kind) {profile : ℕ
     body-made (GetJob name) e = same-drawn (drawn-kind (GetJob name) e)
     body-made (DropJob name) e = same-drawn (drawn-kind (DropJob name) e)
     body-made AuditJob e = elim (cases_lt job.place 4) [
-      | inl l ↦ first-drawn (audit_rest (setup_in start) drawn)
-          (audit-list (setup_in start) drawn (W.kind_is ∙ e))
-          (body-within (audit_rest (setup_in w) job) job.place l
+      | inl l ↦ first-drawn (audit_rest (setup_in start) drawn) (audit-list (setup_in start) drawn
+          (W.kind_is ∙ e)) (body-within (audit_rest (setup_in w) job) job.place l
           (ap (λ xs. slice_get xs job.place) (sym (audit-list (setup_in w) job (W.kind_is ∙ e)))
           ∙ next_stands w job WriteBody next (λ f. cc)))
       | inr l ↦ same-drawn (drawn-later l)
@@ -571,10 +558,9 @@ module _ (start : State) (O : IsOpenAtRest start 1) (kind : Kind) {profile : ℕ
         WalkedAt start kind profile (record (begun_append w job entry) { disk_faults = faults }) drawn
     body-walk entry faults low sound =
         walked-next (record (begun_append w job entry) { disk_faults = faults }) drawn sound refl refl
-        (setup_same (record (begun_append w job entry) { disk_faults = faults }) w refl) refl refl refl
-        refl refl refl
-        (body-subject kind refl W.subject) (body-older kind W.older) (body-records w.records W.records)
-        (body-made kind refl) refl low
+        (setup_same (record (begun_append w job entry) { disk_faults = faults }) w refl) refl refl refl refl
+        refl refl (body-subject kind refl W.subject) (body-older kind W.older)
+        (body-records w.records W.records) (body-made kind refl) refl low
 
   -- ---- the fourth move of an append
 
@@ -596,12 +582,10 @@ module _ (start : State) (O : IsOpenAtRest start 1) (kind : Kind) {profile : ℕ
         (done-writes 8 w W.sound job runs next a flight own three)
 
     gate-records : Wrote a.entry → RecordsAre start kind done (a.entry ∷ w.records)
-    gate-records (Wrote.first left same is) =
-        (let l = left-start (appends_of start kind) left in
+    gate-records (Wrote.first left same is) = (let l = left-start (appends_of start kind) left in
         RecordsAre.one (let b = gate-less in omega (arith, b, l))
         (ap (λ rs. a.entry ∷ rs) same ∙ ap (λ (r : Record). r ∷ start.records) is))
-    gate-records (Wrote.second left same is) =
-        (let l = left-start (appends_left (setup_in w) job) refl in
+    gate-records (Wrote.second left same is) = (let l = left-start (appends_left (setup_in w) job) refl in
         RecordsAre.two a.entry (let b = gate-less in omega (arith, b, l, left)) (on-done kind is)
         (ap (λ rs. a.entry ∷ rs) same))
       where
@@ -631,9 +615,8 @@ module _ (start : State) (O : IsOpenAtRest start 1) (kind : Kind) {profile : ℕ
     same-file name (inr (r, e, f)) = ap (λ rs. file_of rs name) e ∙ f
 
     gate-older : (kd : Kind) → kind ≡ kd → TakesAway start kd done
-    gate-older (PutJob name bytes) e = λ none.
-        (let one : appends_left (setup_in w) job ≡ 1 =
-        (let b = gate-less in let c = left-start (appends_left (setup_in w) job) refl in
+    gate-older (PutJob name bytes) e = λ none. (let one : appends_left (setup_in w) job ≡ 1
+        = (let b = gate-less in let c = left-start (appends_left (setup_in w) job) refl in
         omega (arith, b, c, none)) in
         let far : 4 ≤ job.place = (elim (cases_lt job.place 4) [
           | inl l ↦ absurd (let c = put-first (setup_in w) job name bytes (W.kind_is ∙ e) l in
@@ -651,9 +634,8 @@ module _ (start : State) (O : IsOpenAtRest start 1) (kind : Kind) {profile : ℕ
           refl,
         ))))))
     gate-older (GetJob name) e = tt
-    gate-older (DropJob name) e = λ none.
-        (let one : appends_left (setup_in w) job ≡ 1 =
-        (let b = gate-less in let c = left-start (appends_left (setup_in w) job) refl in
+    gate-older (DropJob name) e = λ none. (let one : appends_left (setup_in w) job ≡ 1
+        = (let b = gate-less in let c = left-start (appends_left (setup_in w) job) refl in
         omega (arith, b, c, none)) in
         ap (taken_out w job) (W.kind_is ∙ e)
         ∙ (removable-same (file_in w name) (none-pinned (ap (pinned_for start) e))
@@ -664,13 +646,11 @@ module _ (start : State) (O : IsOpenAtRest start 1) (kind : Kind) {profile : ℕ
 
     gate-front : take (job.place + 1) (actions_of (setup_in start) done)
         ≡ take (job.place + 1) (actions_of (setup_in start) job)
-    gate-front = subst (λ (s : Setup). take (job.place + 1) (actions_of s done)
-        ≡ take (job.place + 1) (actions_of s job)) W.setup
-        (same-front w job taken next job.kind refl no-get first-older-same)
+    gate-front = subst (λ (s : Setup). take (job.place + 1) (actions_of s done) ≡ take (job.place + 1)
+        (actions_of s job)) W.setup (same-front w job taken next job.kind refl no-get first-older-same)
       where
         no-get : (name : List ℕ) → job.kind ≡ GetJob name → ⊥
-        no-get name e = (let h : Writes w job (GetJob name) a.entry =
-            subst (λ kd. Writes w job kd a.entry) e
+        no-get name e = (let h : Writes w job (GetJob name) a.entry = subst (λ kd. Writes w job kd a.entry) e
             (done-writes 8 w W.sound job runs next a flight own three) in h)
 
         first-older-same : (name bytes : List ℕ) → job.kind ≡ PutJob name bytes → job.place < 4 →
@@ -683,14 +663,12 @@ module _ (start : State) (O : IsOpenAtRest start 1) (kind : Kind) {profile : ℕ
     gate-walk : (faults : ℕ) → w.disk_faults ≤ faults →
         IsSound 8 (record (done_append w job a) { disk_faults = faults }) →
         WalkedAt start kind profile (record (done_append w job a) { disk_faults = faults }) done
-    gate-walk faults low sound =
-        walked-next (record (done_append w job a) { disk_faults = faults }) done sound refl refl
-        (setup_same (record (done_append w job a) { disk_faults = faults }) w
-        (setup-more a.entry w.records (W.sound.set_up W.opened)
-        (W.sound.append a flight).follows.accepted)) refl refl refl refl refl refl
-        (gate-subject kind refl W.subject) (gate-older kind refl) (gate-records gate-wrote)
-        (made-on SyncGate done job.given w.providers next (λ f. cc) refl refl gate-front (refl, refl)) refl
-        low
+    gate-walk faults low sound = walked-next (record (done_append w job a) { disk_faults = faults }) done
+        sound refl refl (setup_same (record (done_append w job a) { disk_faults = faults }) w
+        (setup-more a.entry w.records (W.sound.set_up W.opened) (W.sound.append a flight).follows.accepted))
+        refl refl refl refl refl refl (gate-subject kind refl W.subject) (gate-older kind refl)
+        (gate-records gate-wrote) (made-on SyncGate done job.given w.providers next (λ f. cc) refl refl
+        gate-front (refl, refl)) refl low
 
   -- ---- what each action did
 
@@ -778,17 +756,15 @@ module _ (start : State) (O : IsOpenAtRest start 1) (kind : Kind) {profile : ℕ
       (λ e. cc) refl (refl, refl) low sound is
   moves-walk SyncGate (Some a) new flight next free (at, (faults, low, is)) sound = (
     decided job (taken_out w job job.kind),
-    subst
-        (λ v. WalkedAt start kind profile v (decided job (taken_out w job job.kind))) (sym is)
+    subst (λ v. WalkedAt start kind profile v (decided job (taken_out w job job.kind))) (sym is)
         (gate-walk next a flight at.0 at.1 faults low (subst (IsSound 8) is sound)),
   )
   moves-walk action flight new e next free h sound = absurd h
 
   acts-walk : (action : Action) (new : State) → next_action w job ≡ Some action →
       holder_of w.append action ≡ None → Acts w job action More new → IsSound 8 new → GoesOn new
-  acts-walk (Store j object stripe) new next free (p, call, is) sound =
-      called (Store j object stripe) job.given (with_provider w.providers j p) new next (λ e. cc)
-      (λ e. cc) refl (
+  acts-walk (Store j object stripe) new next free (p, call, is) sound = called (Store j object stripe)
+      job.given (with_provider w.providers j p) new next (λ e. cc) (λ e. cc) refl (
         (p, subst (λ b. Stores object stripe b (w.providers j) p) (block-stored j object stripe) call, refl),
         refl,
       ) sound is
@@ -816,9 +792,8 @@ module _ (start : State) (O : IsOpenAtRest start 1) (kind : Kind) {profile : ℕ
         ),
         refl,
       ) sound is
-  acts-walk (Work object stripe) new next free (symbols, gives, is) sound =
-      called (Work object stripe) (Worked object stripe symbols ∷ job.given) w.providers new next (λ e. cc)
-      (λ e. cc) refl (
+  acts-walk (Work object stripe) new next free (symbols, gives, is) sound = called (Work object stripe)
+      (Worked object stripe symbols ∷ job.given) w.providers new next (λ e. cc) (λ e. cc) refl (
         symbols,
         subst (λ (s : Setup). GivesSymbols (object_made (with_job_at start kind profile job) object) stripe
             (blocks_given job.given s.n object stripe) symbols) W.setup
@@ -827,9 +802,8 @@ module _ (start : State) (O : IsOpenAtRest start 1) (kind : Kind) {profile : ℕ
         refl,
         refl,
       ) sound is
-  acts-walk (Remove j object) new next free (p, call, is) sound =
-      called (Remove j object) job.given (with_provider w.providers j p) new next (λ e. cc) (λ e. cc) refl
-      ((p, call, refl), refl) sound is
+  acts-walk (Remove j object) new next free (p, call, is) sound = called (Remove j object) job.given
+      (with_provider w.providers j p) new next (λ e. cc) (λ e. cc) refl ((p, call, refl), refl) sound is
   acts-walk action new next free h sound = moves-walk action w.append new refl next free h sound
 
   -- a step that goes on leaves the job further on its walk

@@ -21,9 +21,8 @@ pub gate_at : (w : State) (job : Job) (name bytes : List ℕ) (action : Action) 
 gate_at w job name bytes action kind place h = elim (put_next w job name bytes action kind h) [
   | PutAt.first l e ↦ absurd (omega arith)
   | PutAt.store l k is ↦ absurd (omega arith)
-  | PutAt.second q is l e ↦
-      (let q_is : q ≡ 3 = omega arith in let f : Some SyncGate ≡ Some action =
-      subst (λ n. slice_get append_actions n ≡ Some action) q_is e in let g : action ≡ SyncGate = cc in g)
+  | PutAt.second q is l e ↦ (let q_is : q ≡ 3 = omega arith in let f : Some SyncGate ≡ Some action = subst
+      (λ n. slice_get append_actions n ≡ Some action) q_is e in let g : action ≡ SyncGate = cc in g)
   | PutAt.after l is ↦ absurd (omega arith)
 ]
 
@@ -70,48 +69,45 @@ Facts start ms = (k : ℕ) (j : Job) (name bytes : List ℕ) → job_of (now sta
 module _ (limit : ℕ) (start : State) (m : Moment) (ms : List Moment) (N : num.Facts objects start ms)
     (P : pin.Facts start ms) (V : prof.Facts start ms) (F : Facts start ms)
     (X : Changes limit (length ms) (now start ms) m.event m.outcome m.state) where
+  abbrev old : State
+  old = now start ms
+
   step_facts : Facts start (m ∷ ms)
   step_facts k j name bytes h kind late = elim (X.job k j h) [
     | Job_is.kept r (Grown.as_before rec) ↦ later_on start m ms name _
         (F k j name bytes r kind
-        (let e = count_same m.state (now start ms) j j bytes (ap setup_of rec) refl refl in omega arith))
+        (let e = count_same m.state old j j bytes (ap setup_of rec) refl refl in omega arith))
     | Job_is.kept r (Grown.by_other x a runs next_is flight mine other rec) ↦
-        later_on start m ms name _
-        (F k j name bytes r kind
-        (let e = count_same m.state (now start ms) j j bytes
-        (setup_one limit start m ms N P X a x flight runs mine rec) refl refl in omega arith))
+        later_on start m ms name _ (F k j name bytes r kind (let e = count_same m.state old j j
+        bytes (setup_one limit start m ms N P X a x flight runs mine rec) refl refl in omega arith))
     | Job_is.begun kd profile is k_is allowed rec ↦
-        absurd (let e : j.place ≡ 0 = ap (λ (x : Job). x.place) is in omega arith)
+        absurd (let e : j.place ≡ 0 = ap (λ x. x.place) is in omega arith)
     | Job_is.plain x action runs next_is is_plain goes rec stores_it ↦
         (let kx : x.kind ≡ PutJob name bytes = sym goes.kind ∙ kind in
-        let e = count_same m.state (now start ms) j x bytes (ap setup_of rec) goes.subject goes.profile in
-        let place = goes.place in
-        elim (cases_eq x.place (7 + stores_count (now start ms) x bytes)) [
-          | inl gate ↦ absurd (subst IsPlain (gate_at (now start ms) x name bytes action kx gate next_is)
-              is_plain)
+        let e = count_same m.state old j x bytes (ap setup_of rec) goes.subject goes.profile in
+        let place = goes.place in elim (cases_eq x.place (7 + stores_count old x bytes)) [
+          | inl gate ↦ absurd (subst IsPlain (gate_at old x name bytes action kx gate next_is) is_plain)
           | inr other ↦ carried x goes.subject goes.profile (F k x name bytes runs kx (omega arith))
         ])
     | Job_is.drew x runs next_is none_ is rec ↦
-        (let kx : x.kind ≡ PutJob name bytes = sym (ap (λ (y : Job). y.kind) is) ∙ kind in
-        let place : j.place ≡ x.place + 1 = ap (λ (y : Job). y.place) is in
+        (let kx : x.kind ≡ PutJob name bytes = sym (ap (λ y. y.kind) is) ∙ kind in
+        let place : j.place ≡ x.place + 1 = ap (λ y. y.place) is in
         let late_x : 4 ≤ x.place = omega arith in
-        let subject : j.subject ≡ x.subject = ap (λ (y : Job). y.subject) is
-        ∙ drawn_later (now start ms) x x.kind (first_above x late_x) in
-        let e = count_same m.state (now start ms) j x bytes (ap setup_of rec) subject
-        (ap (λ (y : Job). y.profile) is) in
-        elim (cases_eq x.place (7 + stores_count (now start ms) x bytes)) [
+        let subject : j.subject ≡ x.subject = ap (λ y. y.subject) is
+        ∙ drawn_later old x x.kind (first_above x late_x) in
+        let e = count_same m.state old j x bytes (ap setup_of rec) subject (ap (λ y. y.profile) is) in
+        elim (cases_eq x.place (7 + stores_count old x bytes)) [
           | inl gate ↦ absurd (let z : WriteBody ≡ SyncGate =
-              gate_at (now start ms) x name bytes WriteBody kx gate next_is in cc)
-          | inr other ↦ carried x subject (ap (λ (y : Job). y.profile) is)
-              (F k x name bytes runs kx (omega arith))
+              gate_at old x name bytes WriteBody kx gate next_is in cc)
+          | inr other ↦ carried x subject (ap (λ y. y.profile) is) (F k x name bytes runs kx (omega arith))
         ])
     | Job_is.finished x a runs next_is flight mine is rec none_ ↦
-        (let kx : x.kind ≡ PutJob name bytes = sym (ap (λ (y : Job). y.kind) is) ∙ kind in
-        let place : j.place ≡ x.place + 1 = ap (λ (y : Job). y.place) is in
+        (let kx : x.kind ≡ PutJob name bytes = sym (ap (λ y. y.kind) is) ∙ kind in
+        let place : j.place ≡ x.place + 1 = ap (λ y. y.place) is in
         let late_x : 4 ≤ x.place = omega arith in
-        comes_now x a runs kx next_is late_x (ap (λ (y : Job). y.subject) is)
-        (ap (λ (y : Job). y.profile) is) rec
-        (V.ended a x name bytes flight (subst (λ n. job_of (now start ms).jobs n ≡ Some x) (sym mine) runs) kx
+        comes_now x a runs kx next_is late_x (ap (λ y. y.subject) is)
+        (ap (λ y. y.profile) is) rec
+        (V.ended a x name bytes flight (subst (λ n. job_of old.jobs n ≡ Some x) (sym mine) runs) kx
         late_x))
   ]
     where
@@ -122,13 +118,12 @@ module _ (limit : ℕ) (start : State) (m : Moment) (ms : List Moment) (N : num.
           (subst (λ n. HasComeIn start ms name (file_as name n (length bytes) j.profile)) (sym subject)
           (subst (λ p. HasComeIn start ms name (file_as name x.subject (length bytes) p)) (sym profile) c))
 
-      comes_now : (x : Job) (a : Append) → job_of (now start ms).jobs k ≡ Some x →
-          x.kind ≡ PutJob name bytes → next_action (now start ms) x ≡ Some SyncGate → 4 ≤ x.place →
-          j.subject ≡ x.subject → j.profile ≡ x.profile →
-          m.state.records ≡ a.entry ∷ (now start ms).records → Ended (now start ms).records x bytes a.entry →
-          HasComeIn start (m ∷ ms) name (file_as name j.subject (length bytes) j.profile)
+      comes_now : (x : Job) (a : Append) → job_of old.jobs k ≡ Some x → x.kind ≡ PutJob name bytes →
+          next_action old x ≡ Some SyncGate → 4 ≤ x.place → j.subject ≡ x.subject → j.profile ≡ x.profile →
+          m.state.records ≡ a.entry ∷ old.records → Ended old.records x bytes a.entry → HasComeIn start
+          (m ∷ ms) name (file_as name j.subject (length bytes) j.profile)
       comes_now x a runs kx next_is late_x subject profile rec e =
-          (let place = gate_place (now start ms) x name bytes kx next_is late_x in
+          (let place = gate_place old x name bytes kx next_is late_x in
           subst (λ p. HasComeIn start (m ∷ ms) name (file_as name j.subject (length bytes) p)) (sym profile)
           (subst (λ n. HasComeIn start (m ∷ ms) name (file_as name n (length bytes) x.profile)) (sym subject)
           (record {
@@ -138,7 +133,7 @@ module _ (limit : ℕ) (start : State) (m : Moment) (ms : List Moment) (N : num.
             split = refl;
             comes = record {
               version = e.version;
-              done = came_by (now start ms) m.state a.entry rec ∙ ap Some e.entry_is;
+              done = came_by old m.state a.entry rec ∙ ap Some e.entry_is;
               profiled = e.profiled;
               started = P.started k x name bytes runs kx late_x (omega arith);
               named = refl;
@@ -148,8 +143,7 @@ module _ (limit : ℕ) (start : State) (m : Moment) (ms : List Moment) (N : num.
 facts : (limit : ℕ) (start : State) → IsStart start → (ms : List Moment) → IsRun limit start ms →
     Facts start ms
 facts limit start clean [] run = λ k j name bytes h kind late. absurd (found_none start.jobs k j clean.jobs h)
-facts limit start clean (m ∷ ms) run =
-    (let A = all limit start clean ms run.2 in
+facts limit start clean (m ∷ ms) run = (let A = all limit start clean ms run.2 in
     step_facts limit start m ms A.numbers A.pins (prof.facts limit start clean ms run.2)
     (facts limit start clean ms run.2)
     (changes limit (length ms) (now start ms) m.event m.outcome m.state A.numbers.idle run.1))
@@ -158,6 +152,5 @@ facts limit start clean (m ∷ ms) run =
 pub acknowledged : IsAcknowledged
 acknowledged limit start m ms job name bytes clean run e =
     facts limit start clean ms run.2 job.number job name bytes e.runs e.kind
-    (end_place (now start ms) job name bytes e.kind
-    (event_end limit (length ms) (now start ms) m.event m.outcome m.state job answer.Put
-    (λ x. x) e.event e.outcome e.runs run.1).0)
+    (end_place (now start ms) job name bytes e.kind (event_end limit (length ms) (now start ms) m.event
+    m.outcome m.state job answer.Put (λ x. x) e.event e.outcome e.runs run.1).0)

@@ -6,14 +6,9 @@ use Rattle.std.specs.Prelude.{slice_get}
 pub split_get : {X : Type 0} (xs ys : List X) (k : ℕ) (x : X) → slice_get (xs ++ ys) k ≡ Some x →
     ((k < length xs) × (slice_get xs k ≡ Some x)) ⊎
     ((length xs ≤ k) × (slice_get ys (k - length xs) ≡ Some x))
-split_get [] ys k x h =
-    inr (omega arith, subst (λ n. slice_get ys n ≡ Some x) (let e : k ≡ k - 0 = omega arith in e) h)
+split_get [] ys k x h = inr (omega arith, (rw (let e : k ≡ k - 0 = omega arith in e) at h))
 split_get (z ∷ xs) ys zero x h = inl (omega arith, h)
 split_get (z ∷ xs) ys (suc k) x h = elim (split_get xs ys k x h) [
   | inl p ↦ inl (omega (arith, p.0), p.1)
-  | inr q ↦ inr (
-    omega (arith, q.0),
-    subst (λ n. slice_get ys n ≡ Some x)
-        (let e : k - length xs ≡ suc k - suc (length xs) = omega arith in e) q.1,
-  )
+  | inr q ↦ inr (omega (arith, q.0), subst (λ n. slice_get ys n ≡ Some x) (omega arith) q.1)
 ]

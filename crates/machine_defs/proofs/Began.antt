@@ -1,5 +1,5 @@
 -- A running job is the one that its begin began.
-use Rattle.machine_defs.proofs.Words.{◌≡◌, ◌⊎◌, refl, ap, sym, subst, ◌∙◌, inl, inr, arith, Kind, PutJob, GetJob, AuditJob, Job, job_of, with_job, without_job, advanced, Answer, Event, Init, Begin, BeginAt, BeginScrub, BeginPack, Step, Alter, Lose, Stop, Reopen, Names, Continue, Outcome, Ready, Refused, Opened, Begun, More, Ended, Replaced, NothingHeld, Stopped, Continued, State, Alone, IsStart, Settles, beginning, StepsAlone, reread, Stops, Reopens, Continues, Happens, Moment, now, IsRun, IsBeginOf, NoneBegan, WasBegun, IsPutBegin, GivesUp, IsOfJob}
+use Rattle.machine_defs.proofs.Words.{◌≡◌, ◌⊎◌, refl, ap, sym, subst, ◌∙◌, inl, inr, arith, Kind, PutJob, GetJob, AuditJob, Job, job_of, with_job, without_job, advanced, Answer, Event, Init, Begin, BeginAt, Step, Stop, Reopen, Continue, Outcome, Ready, Refused, Opened, Begun, More, Ended, Replaced, NothingHeld, Stopped, Continued, State, Alone, IsStart, Settles, beginning, StepsAlone, reread, Stops, Reopens, Continues, Happens, Moment, now, IsRun, IsBeginOf, NoneBegan, WasBegun, IsPutBegin, GivesUp, IsOfJob}
 use Rattle.std.proofs.Common.{ℕ, List, [], ◌∷◌, ◌++◌, length, Option, Some, None}
 use Rattle.machine_defs.specs.Refusals as refusal
 use Rattle.machine_defs.specs.Answers as answer
@@ -20,9 +20,6 @@ IsNoEnd r = Unit {0}
 abbrev IsNoBegin : Outcome → Type 0
 IsNoBegin (Begun number) = ⊥
 IsNoBegin r = Unit {0}
-
-not_begun : (r : Outcome) (n : ℕ) → IsNoBegin r → r ≡ Begun n → ⊥
-not_begun r n h e = subst IsNoBegin e h
 
 -- a job after an event that began none
 pub record Had (old : State) (k : ℕ) (j : Job) : Type 0 where
@@ -46,7 +43,7 @@ module _ (moment : ℕ) (old : State) where
 
   -- an event that began none
   kept : (e : Event) (r : Outcome) (k : ℕ) (j : Job) → IsNoBegin r → Had old k j → Came moment old e r k j
-  kept e r k j none h = Came.had h (λ n is. absurd (not_begun r n none is))
+  kept e r k j none h = Came.had h (λ n is. absurd (rw is at none))
 
   same_jobs : (e : Event) (r : Outcome) → IsNoBegin r → AllCame moment old e r old.jobs
   same_jobs e r none k j h = kept e r k j none (itself k j h)
@@ -98,8 +95,7 @@ module _ (moment : ℕ) (old : State) where
   begun : (e : Event) (kind : Kind) (profile : Option ℕ) → IsBeginOf e (beginning old moment kind profile) →
       AllCame moment old e (Begun old.next_job) (old.jobs ++ beginning old moment kind profile ∷ [])
   begun e kind profile is k j h = elim (found_more old.jobs (beginning old moment kind profile) k j h) [
-    | inl p ↦ Came.fresh (subst (IsBeginOf e) (sym p.1) is) (ap Begun (sym p.0))
-        (ap (λ (x : Job). x.begun) p.1)
+    | inl p ↦ Came.fresh (subst (IsBeginOf e) (sym p.1) is) (ap Begun (sym p.0)) (ap (λ x. x.begun) p.1)
     | inr q ↦ Came.had (itself k j q) next_is
   ]
 
@@ -197,9 +193,8 @@ one_last number [] (x ∷ rest) m n before older is out other none last =
     (let e : m ≡ x = cc in absurd (last.0 (sym (ap (λ (y : Moment). y.outcome) e) ∙ out)))
 one_last number (x ∷ later) [] m n before older is out other none last =
     (let e : x ≡ n = cc in absurd (none.0 (ap (λ (y : Moment). y.outcome) e ∙ other)))
-one_last number (x ∷ later) (y ∷ rest) m n before older is out other none last =
-    one_last number later rest m n before older (let e : later ++ m ∷ before ≡ rest ++ n ∷ older = cc in e)
-    out other none.1 last.1
+one_last number (x ∷ later) (y ∷ rest) m n before older is out other none last = one_last number later rest m
+    n before older (let e : later ++ m ∷ before ≡ rest ++ n ∷ older = cc in e) out other none.1 last.1
 
 -- a job that runs with the number of a begin, behind which none of that number came, is the one begun there
 pub is_begun : (limit : ℕ) (start : State) → IsStart start → (later before : List Moment) (m : Moment) →
@@ -213,21 +208,17 @@ is_begun limit start clean later before m run k j out none h =
 -- a job begun by the begin of a put of these bytes is one
 pub put_of : (e : Event) (j : Job) (name bytes : List ℕ) → IsBeginOf e j → IsPutBegin e name bytes →
     j.kind ≡ PutJob name bytes
-put_of e j name bytes (inl is) (inl p) = (let f : Begin j.kind ≡ Begin (PutJob name bytes) = sym is ∙ p in cc)
-put_of e j name bytes (inl is) (inr (profile, p)) =
-    absurd (let f : Begin j.kind ≡ BeginAt profile name bytes = sym is ∙ p in cc)
-put_of e j name bytes (inr (n, by, kind, is)) (inl p) =
-    absurd (let f : BeginAt j.profile n by ≡ Begin (PutJob name bytes) = sym is ∙ p in cc)
-put_of e j name bytes (inr (n, by, kind, is)) (inr (profile, p)) =
-    (let f : BeginAt j.profile n by ≡ BeginAt profile name bytes = sym is ∙ p in
-    let g : PutJob n by ≡ PutJob name bytes = cc in kind ∙ g)
+put_of e j name bytes (inl is) (inl p) = cc (sym is ∙ p)
+put_of e j name bytes (inl is) (inr (profile, p)) = absurd (cc (sym is ∙ p))
+put_of e j name bytes (inr (n, by, kind, is)) (inl p) = absurd (cc (sym is ∙ p))
+put_of e j name bytes (inr (n, by, kind, is)) (inr (profile, p)) = (let f = sym is ∙ p in
+    kind ∙ cc)
 
 -- a job begun by a begin with no profile of its own is of the kind
 pub kind_of : (e : Event) (j : Job) (name : List ℕ) → IsBeginOf e j → e ≡ Begin (GetJob name) →
     j.kind ≡ GetJob name
-kind_of e j name (inl is) p = (let f : Begin j.kind ≡ Begin (GetJob name) = sym is ∙ p in cc)
-kind_of e j name (inr (n, by, kind, is)) p =
-    absurd (let f : BeginAt j.profile n by ≡ Begin (GetJob name) = sym is ∙ p in cc)
+kind_of e j name (inl is) p = cc (sym is ∙ p)
+kind_of e j name (inr (n, by, kind, is)) p = absurd (cc (sym is ∙ p))
 
 -- ---- which job a step ended
 
@@ -248,9 +239,8 @@ ended_job limit moment old e r new number how good event outcome h =
     by_step old Found (λ n o still is. absurd (subst (IsStill (Step n)) is still))
     (λ job runs is_open unbarred action o w next free made is. (job, runs, refl))
     (λ n x o w at is_open unbarred made is. absurd (not_failed how good
-    (alone_fails old (beginning old 0 AuditJob None) w x how
-    (subst (λ (z : Outcome). StepsAlone old x z w) is made))))
-    number old.is_open r new refl (subst (λ (x : Event). Happens limit moment old x r new) event h) outcome
+    (alone_fails old (beginning old 0 AuditJob None) w x how (subst (λ z. StepsAlone old x z w) is made))))
+    number old.is_open r new refl (subst (λ x. Happens limit moment old x r new) event h) outcome
   where
     Found : ℕ → Outcome → State → Type 0
     Found n o w = o ≡ Ended how → (job : Job) × (job_of old.jobs n ≡ Some job) × (job.number ≡ n)
@@ -294,8 +284,7 @@ ended_gone limit moment old e r new number how job lone runs event outcome h =
     ]
   where
     Gone : ℕ → Outcome → State → Type 0
-    Gone n o w = ((x : Job) × (job_of old.jobs n ≡ Some x)) →
-        IsNoEnd o ⊎ (w.jobs ≡ without_job old.jobs n)
+    Gone n o w = ((x : Job) × (job_of old.jobs n ≡ Some x)) → IsNoEnd o ⊎ (w.jobs ≡ without_job old.jobs n)
 
     no_end : (n : ℕ) (o : Outcome) → IsStill (Step n) o → IsNoEnd o
     no_end n (Ended how) h = absurd h

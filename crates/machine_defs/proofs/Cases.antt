@@ -52,8 +52,7 @@ IsUnstored p q j how = (FailsToStore p q × (how ≡ answer.ProviderFault j))
 
 -- the records after a record in doubt is settled
 abbrev pub AreSettled : State → List Record → Type 0
-AreSettled old rs = (rs ≡ old.records)
-    ⊎ ((d : Doubt) × (old.doubt ≡ Some d) × (rs ≡ d.entry ∷ old.records))
+AreSettled old rs = (rs ≡ old.records) ⊎ ((d : Doubt) × (old.doubt ≡ Some d) × (rs ≡ d.entry ∷ old.records))
 
 -- a state with these records, and nothing in doubt
 abbrev pub settled : State → List Record → List Record → State
@@ -110,10 +109,9 @@ pub record Acting (old : State) (job : Job) (P : Outcome → State → Type 0) :
 
 -- what a step of a scrub or of a pack comes to
 pub record Beside (old : State) (x : Alone) (P : Outcome → State → Type 0) : Type 0 where
-  pub stores : (scrub : Scrub) (rest : List Action) (j o s : ℕ) (p : Provider) →
-      x ≡ Scrubbing scrub → scrub.todo ≡ Store j o s ∷ rest →
-      Stores o s (block_to_scrub old scrub j o s) (old.providers j) p → P More
-      (record old {
+  pub stores : (scrub : Scrub) (rest : List Action) (j o s : ℕ) (p : Provider) → x ≡ Scrubbing scrub →
+      scrub.todo ≡ Store j o s ∷ rest → Stores o s (block_to_scrub old scrub j o s) (old.providers j) p →
+      P More (record old {
         alone = Some (Scrubbing (record scrub { todo = rest }));
         providers = with_provider old.providers j p;
       })
@@ -141,16 +139,14 @@ pub record Cases (limit moment : ℕ) (old : State) (P : Event → Outcome → S
       old.is_barred ≡ false → Acting old job (P (Step job.number))
   pub alone : (number : ℕ) (x : Alone) (r : Outcome) (new : State) → old.alone ≡ Some x →
       old.is_open ≡ true → old.is_barred ≡ false → StepsAlone old x r new → P (Step number) r new
-  pub begins : (kind : Kind) → old.is_open ≡ true → refusal_of_begin limit old kind None ≡ None → P (Begin kind)
-      (Begun old.next_job)
-      (record old {
+  pub begins : (kind : Kind) → old.is_open ≡ true → refusal_of_begin limit old kind None ≡ None →
+      P (Begin kind) (Begun old.next_job) (record old {
         jobs = old.jobs ++ beginning old moment kind None ∷ [];
         next_job = old.next_job + 1;
       })
   pub begins_at : (profile : ℕ) (name bytes : List ℕ) → old.is_open ≡ true →
-      refusal_of_begin limit old (PutJob name bytes) (Some profile) ≡ None → P (BeginAt profile name bytes)
-      (Begun old.next_job)
-      (record old {
+      refusal_of_begin limit old (PutJob name bytes) (Some profile) ≡ None →
+      P (BeginAt profile name bytes) (Begun old.next_job) (record old {
         jobs = old.jobs ++ beginning old moment (PutJob name bytes) (Some profile) ∷ [];
         next_job = old.next_job + 1;
       })
@@ -268,25 +264,15 @@ module _ (old : State) (x : Alone) (P : Outcome → State → Type 0) (c : Besid
   steps_scrub scrub (action ∷ rest) r new at is h = scrubs scrub action rest r new at is h
 
   packed_by : (pack : Pack) (made : ℕ) (r : Outcome) (new : State) → Packs old pack made r new → P r new
-  packed_by pack zero More new (faults, low, is) = leaves is (c.packs _ _ _ _ _ faults More tt low)
-  packed_by pack zero (Ended answer.DiskFault) new (faults, low, rose, is) =
-      leaves is (c.packs _ _ _ _ _ faults (Ended answer.DiskFault) tt low)
-  packed_by pack zero (Ended answer.Memory) new is = leaves is (c.aside None (Ended answer.Memory) tt)
-  packed_by pack (suc zero) More new (faults, low, is) = leaves is (c.packs _ _ _ _ _ faults More tt low)
-  packed_by pack (suc zero) (Ended answer.DiskFault) new (faults, low, rose, is) =
-      leaves is (c.packs _ _ _ _ _ faults (Ended answer.DiskFault) tt low)
-  packed_by pack (suc (suc zero)) More new (faults, low, is) =
-      leaves is (c.packs _ _ _ _ _ faults More tt low)
-  packed_by pack (suc (suc zero)) (Ended answer.DiskFault) new (faults, low, rose, is) =
-      leaves is (c.packs _ _ _ _ _ faults (Ended answer.DiskFault) tt low)
-  packed_by pack (suc (suc zero)) (Ended answer.Memory) new is =
-      leaves is (c.aside None (Ended answer.Memory) tt)
-  packed_by pack (suc (suc (suc zero))) More new (faults, low, is) =
-      leaves is (c.packs _ _ _ _ _ faults More tt low)
-  packed_by pack (suc (suc (suc zero))) (Ended answer.DiskFault) new (faults, low, rose, is) =
-      leaves is (c.packs _ _ _ _ _ faults (Ended answer.DiskFault) tt low)
   packed_by pack (suc (suc (suc (suc zero)))) (Ended (answer.Packed before after)) new (b, a, is) =
       leaves is (c.aside None (Ended (answer.Packed before after)) tt)
+  packed_by pack (suc (suc (suc (suc made)))) r new h = absurd h
+  packed_by pack made More new (faults, low, is) = leaves is (c.packs _ _ _ _ _ faults More tt low)
+  packed_by pack made (Ended answer.DiskFault) new (faults, low, rose, is) =
+      leaves is (c.packs _ _ _ _ _ faults (Ended answer.DiskFault) tt low)
+  packed_by pack zero (Ended answer.Memory) new is = leaves is (c.aside None (Ended answer.Memory) tt)
+  packed_by pack (suc (suc zero)) (Ended answer.Memory) new is =
+      leaves is (c.aside None (Ended answer.Memory) tt)
   packed_by pack made r new h = absurd h
 
 pub by_alone : (old : State) (x : Alone) (P : Outcome → State → Type 0) → Beside old x P → (r : Outcome)
@@ -383,8 +369,7 @@ module _ (limit moment : ℕ) (old : State) (P : Event → Outcome → State →
   begins_at profile name bytes (Refused why) new h =
       keeps (BeginAt profile name bytes) (Refused why) new h.2 tt
   begins_at profile name bytes (Begun job) new (is_open, allowed, number, is) =
-      subst (λ n. P (BeginAt profile name bytes) (Begun n) new) (sym number)
-      (becomes is (c.begins_at profile name bytes is_open allowed))
+      (rw (← number) at (becomes is (c.begins_at profile name bytes is_open allowed)))
   begins_at profile name bytes r new h = absurd h
 
   begins_alone : (e : Event) (why : Option Refusal) (x : Alone) → IsStill e Closed →
@@ -411,16 +396,14 @@ module _ (limit moment : ℕ) (old : State) (P : Event → Outcome → State →
   stops picks r new h = absurd h
 
   reopens : (r : Outcome) (new : State) → Reopens old r new → P Reopen r new
-  reopens Opened new (mid, s, up, enough, (faults, low, is)) =
-      by_reading (λ mid. IsSetUp mid → new ≡ record mid { is_open = true; disk_faults = faults } →
-      P Reopen Opened new)
+  reopens Opened new (mid, s, up, enough, (faults, low, is)) = by_reading
+      (λ mid. IsSetUp mid → new ≡ record mid { is_open = true; disk_faults = faults } → P Reopen Opened new)
       (λ rs js area so up is. becomes is (c.opens rs js area so up faults low)) mid s up is
   reopens (Refused refusal.NotSetUp) new (mid, s, none, (faults, low, is)) =
       by_reading (λ mid. new ≡ record mid { disk_faults = faults } → P Reopen (Refused refusal.NotSetUp) new)
       (λ rs js area so is. becomes is (c.opens_not refusal.NotSetUp rs js area so faults low)) mid s is
-  reopens (Refused refusal.TooFewProviders) new (mid, s, up, few, (faults, low, is)) =
-      by_reading (λ mid. new ≡ record mid { disk_faults = faults } →
-      P Reopen (Refused refusal.TooFewProviders) new)
+  reopens (Refused refusal.TooFewProviders) new (mid, s, up, few, (faults, low, is)) = by_reading
+      (λ mid. new ≡ record mid { disk_faults = faults } → P Reopen (Refused refusal.TooFewProviders) new)
       (λ rs js area so is. becomes is (c.opens_not refusal.TooFewProviders rs js area so faults low)) mid s is
   reopens (Refused refusal.DiskFault) new (faults, low, rose, is) =
       becomes is (c.reads_not refusal.DiskFault faults low)
@@ -435,13 +418,11 @@ module _ (limit moment : ℕ) (old : State) (P : Event → Outcome → State →
   inits_closed s (Refused refusal.Memory) new good closed (doubt, leaves_it, is) =
       becomes is (c.sets_up_not s refusal.Memory doubt good closed leaves_it old.disk_faults (omega arith))
   inits_closed s (Refused refusal.Already) new good closed (mid, settles, up, (faults, low, is)) =
-      by_settling old (λ mid. new ≡ record mid { disk_faults = faults } →
-      P (Init s) (Refused refusal.Already) new)
-      (λ rs js so is. becomes is (c.is_set_up s rs js closed so faults low)) mid settles is
+      by_settling old (λ mid. new ≡ record mid { disk_faults = faults } → P (Init s) (Refused refusal.Already)
+      new) (λ rs js so is. becomes is (c.is_set_up s rs js closed so faults low)) mid settles is
   inits_closed s Ready new good closed (mid, settles, none, (faults, low, is)) =
       by_settling old (λ mid. IsNotSetUp mid → new ≡ record (brought mid (SetUp s)) { disk_faults = faults } →
-      P (Init s) Ready new)
-      (λ rs js so none is. becomes is
+      P (Init s) Ready new) (λ rs js so none is. becomes is
       (c.sets_up s rs js good closed so (is_some-none (setup_of rs) none) faults low)) mid settles none is
   inits_closed s r new good closed h = absurd h
 
@@ -490,10 +471,9 @@ module _ (limit moment : ℕ) (old : State) (P : Event → Outcome → State →
   by_event (Step number) r new h = by_step old (λ n. P (Step n)) (λ n. c.still (Step n))
       (λ job runs is_open unbarred. by_action old job (P (Step job.number)) (c.acts job runs is_open unbarred))
       c.alone number old.is_open r new refl h
-  by_event (Alter j object stripe place symbol) r new h =
-      replaces_if (Alter j object stripe place symbol) j tt tt (λ i is. eq-eqb j i (sym is))
-      (λ held. HasPlace (held object stripe) place) (with_symbol object stripe place symbol)
-      (nat_lt j old.handed) r new h
+  by_event (Alter j object stripe place symbol) r new h = replaces_if (Alter j object stripe place symbol) j
+      tt tt (λ i is. eq-eqb j i (sym is)) (λ held. HasPlace (held object stripe) place)
+      (with_symbol object stripe place symbol) (nat_lt j old.handed) r new h
   by_event (Lose j object stripe) r new h =
       replaces_if (Lose j object stripe) j tt tt (λ i is. eq-eqb j i (sym is))
       (λ held. IsSome (held object stripe)) (without_block object stripe) (nat_lt j old.handed) r new h

@@ -59,14 +59,12 @@ pub data Job_is (limit moment : ℕ) (old new : State) (k : ℕ) (job : Job) : T
       b ≡ Some (block_to_store old before before.kind i o s)) →
       Job_is limit moment old new k job
   drew : (before : Job) → job_of old.jobs k ≡ Some before → next_action old before ≡ Some WriteBody →
-      old.append ≡ None →
-      job ≡ record (advanced before) { subject = subject_drawn old before before.kind } →
+      old.append ≡ None → job ≡ record (advanced before) { subject = subject_drawn old before before.kind } →
       new.records ≡ old.records → Job_is limit moment old new k job
   finished : (before : Job) (a : Append) → job_of old.jobs k ≡ Some before →
-      next_action old before ≡ Some SyncGate → old.append ≡ Some a →
-      a.job ≡ k → job ≡ record (advanced before) { older = taken_out old before before.kind } →
-      new.records ≡ a.entry ∷ old.records →
-      new.append ≡ None → Job_is limit moment old new k job
+      next_action old before ≡ Some SyncGate → old.append ≡ Some a → a.job ≡ k →
+      job ≡ record (advanced before) { older = taken_out old before before.kind } →
+      new.records ≡ a.entry ∷ old.records → new.append ≡ None → Job_is limit moment old new k job
 
 -- the append in flight after an event
 pub data Append_is (old new : State) (a : Append) : Type 0 where

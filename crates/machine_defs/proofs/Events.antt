@@ -1,5 +1,5 @@
 -- Each event makes such changes and no others.
-use Rattle.machine_defs.proofs.Words.{◌≡◌, ◌≤◌, Bool, false, ◌⊎◌, ◌&&◌, refl, ap, sym, subst, ◌∙◌, inl, inr, arith, is_some, nat_lt, option_map, lt-ltb, eqb-true, eq-eqb, ne_eqb, cases_Bool, and_parts, and_from, false≢true, Record, Setup, SetUp, next_id, setup_of, version_of, Held, Provider, with_block, without_object, LosesPart, Stores, Removes, Replaces, Kind, PutJob, GetJob, DropJob, AuditJob, RepairJob, UpgradeJob, Job, Given, Fetched, Answered, Worked, job_of, with_job, without_job, advanced, advanced_with, Action, WriteBody, SyncBody, WriteGate, SyncGate, Store, Fetch, Ask, Work, Remove, Event, Init, Begin, BeginAt, BeginScrub, BeginPack, Step, Stop, Reopen, Continue, Outcome, Ready, Refused, Opened, Begun, More, Ended, Replaced, NothingHeld, Stopped, Continued, State, Append, Doubt, Scrub, Alone, Scrubbing, setup_in, worked_object, with_provider, going_on, beginning, Writes, begun_append, done_append, subject_drawn, bytes_drawn, is_first_append, taken_out, next_action, block_to_store, alone_refusal, scrubbing, block_to_scrub, pack_causes, Cause, first_refusal, LeavesDoubt, Happens, GivesSymbols, blocks_given, Answer, refusal_of_begin}
+use Rattle.machine_defs.proofs.Words.{◌≡◌, ◌≤◌, Bool, false, ◌⊎◌, ◌&&◌, refl, ap, sym, subst, ◌∙◌, inl, inr, arith, is_some, nat_lt, option_map, lt-ltb, eqb-true, eq-eqb, ne_eqb, cases_Bool, and_parts, and_from, false≢true, Record, Setup, SetUp, next_id, setup_of, version_of, Held, Provider, with_block, without_object, LosesPart, Stores, Removes, Replaces, Kind, PutJob, Job, Given, Fetched, Answered, Worked, job_of, with_job, without_job, advanced, advanced_with, Action, WriteBody, SyncBody, WriteGate, SyncGate, Store, Fetch, Ask, Work, Remove, Event, Init, Begin, BeginAt, BeginScrub, BeginPack, Step, Stop, Reopen, Continue, Outcome, Ready, Refused, Opened, Begun, More, Ended, Replaced, NothingHeld, Stopped, Continued, State, Append, Doubt, Scrub, Alone, Scrubbing, setup_in, worked_object, with_provider, going_on, beginning, Writes, begun_append, done_append, subject_drawn, bytes_drawn, is_first_append, taken_out, next_action, block_to_store, alone_refusal, scrubbing, block_to_scrub, pack_causes, Cause, first_refusal, LeavesDoubt, Happens, GivesSymbols, blocks_given, Answer, refusal_of_begin}
 use Rattle.std.proofs.Common.{ℕ, ◌+◌, ◌<◌, ◌==◌, true, List, [], ◌∷◌, ◌++◌, Option, Some, None}
 use Rattle.std.specs.Prelude.{◌||◌, length}
 use Rattle.device_defs.specs.Told.{Goes}
@@ -69,10 +69,9 @@ removed_block object old new o s (inr r) = part_block object old.held new.held o
 kept_told : (IsThere : Held → Type 0) (changed : Held → Held) (was : Option Held) (old new : Provider)
     (o s : ℕ) → old.held ≡ was → Replaces IsThere changed false (record old { held = was }) new →
     told new o s ≡ told old o s
-kept_told IsThere changed None old new o s e h =
-    ap (λ (x : Option Held). option_map (λ (h : Held). h o s) x) (h.0 ∙ sym e)
-kept_told IsThere changed (Some held) old new o s e h = ap (λ (p : Provider). told p o s) h.1
-    ∙ ap (λ (x : Option Held). option_map (λ (h : Held). h o s) x) (sym e)
+kept_told IsThere changed None old new o s e h = ap (λ x. option_map (λ h. h o s) x) (h.0 ∙ sym e)
+kept_told IsThere changed (Some held) old new o s e h = ap (λ p. told p o s) h.1
+    ∙ ap (λ x. option_map (λ h. h o s) x) (sym e)
 
 -- a store that is not made leaves what the provider holds
 unstored_held : (p q : Provider) (j : ℕ) (how : Answer) → IsUnstored p q j how → q.held ≡ p.held
@@ -82,9 +81,8 @@ unstored_held p q j how (inr (call, is)) = call.held
 -- a number that is drawn leaves the bytes of those below it
 pub drawn_bytes : (w : State) (job : Job) (kind : Kind) (o : ℕ) → o < next_id w.records →
     bytes_drawn w job kind o ≡ w.bytes o
-drawn_bytes w job (PutJob name bytes) o l =
-    cond_false (is_first_append job && (o == next_id w.records)) bytes (w.bytes o)
-    (go (is_first_append job) (ne_eqb o (next_id w.records) (λ e. omega arith)))
+drawn_bytes w job (PutJob name bytes) o l = cond_false (is_first_append job && (o == next_id w.records)) bytes
+    (w.bytes o) (go (is_first_append job) (ne_eqb o (next_id w.records) (λ e. omega arith)))
   where
     go : (b : Bool) → (o == next_id w.records) ≡ false → (b && (o == next_id w.records)) ≡ false
     go true h = h
@@ -102,63 +100,42 @@ not_stored action i o s h e = subst IsNoStore e h
 -- a provider that tells has the block that was stored
 pub some_told : (block : List ℕ) (held : Option Held) (b : Option (List ℕ)) →
     option_map (λ (h : Held). Some block) held ≡ Some b → b ≡ Some block
-some_told block None b h = (let e : None ≡ Some b = h in cc)
-some_told block (Some g) b h =
-    (let e : Some (Some block) ≡ Some b = h in sym (let f : Some block ≡ b = cc in f))
+some_told block None b h = cc h
+some_told block (Some g) b h = cc h
 
 -- what a store leaves where it stored
 stored_value : (old : State) (job : Job) (j object stripe : ℕ) (p : Provider) →
     Stores object stripe (block_to_store old job job.kind j object stripe) (old.providers j) p →
     (i o s : ℕ) (b : Option (List ℕ)) → Store j object stripe ≡ Store i o s →
     told (with_provider old.providers j p i) o s ≡ Some b → b ≡ Some (block_to_store old job job.kind i o s)
-stored_value old job j object stripe p call i o s b e h = subst (λ (a : Action). Value a) e here
+stored_value old job j object stripe p call i o s b e h = rw (← ij, ← oo, ← ss)
+    (some_at (old.providers j).held (ap (λ x. option_map (λ g. g object stripe) x) (sym call.held) ∙ told_here))
   where
-    Value : Action → Type 0
-    Value (Store x y z) = b ≡ Some (block_to_store old job job.kind x y z)
-    Value a = Unit {0}
-
     ij : j ≡ i
-    ij = (let f = e in cc)
+    ij = cc e
 
     oo : object ≡ o
-    oo = (let f = e in cc)
+    oo = cc e
 
     ss : stripe ≡ s
-    ss = (let f = e in cc)
+    ss = cc e
 
     told_here : told p object stripe ≡ Some b
-    told_here = ap (λ (q : Provider). told q object stripe)
-        (sym (cond_true (j == j) p (old.providers j) (eq-eqb j j refl)))
-        ∙ (ap (λ n. told (with_provider old.providers j p n) object stripe) ij
-        ∙ (ap (λ n. told (with_provider old.providers j p i) n stripe) oo
-        ∙ (ap (λ n. told (with_provider old.providers j p i) o n) ss ∙ h)))
+    told_here = ap (λ q. told q object stripe)
+        (sym (cond_true (j == j) p (old.providers j) (eq-eqb j j refl))) ∙ (rw (← ij, ← oo, ← ss) at h)
 
-    here : b ≡ Some (block_to_store old job job.kind j object stripe)
-    here = elim (set_block object stripe (block_to_store old job job.kind j object stripe)
-        (old.providers j).held object stripe) [
-          | inl hit ↦ some_told (block_to_store old job job.kind j object stripe) (old.providers j).held b
-              (sym hit.2 ∙ (ap (λ (x : Option Held). option_map (λ (g : Held). g object stripe) x)
-              (sym call.held)
-              ∙ told_here))
-          | inr miss ↦ some_at (old.providers j).held
-              (ap (λ (x : Option Held). option_map (λ (g : Held). g object stripe) x) (sym call.held)
-              ∙ told_here)
-        ]
-      where
-        some_at : (held : Option Held) →
-            option_map (λ (g : Held). g object stripe)
-            (option_map (with_block object stripe (block_to_store old job job.kind j object stripe)) held)
-            ≡ Some b → b ≡ Some (block_to_store old job job.kind j object stripe)
-        some_at None g = (let f : None ≡ Some b = g in cc)
-        some_at (Some x) g = (let f : Some
-            (with_block object stripe (block_to_store old job job.kind j object stripe) x object stripe)
-            ≡ Some b = g in
-            let k : with_block object stripe (block_to_store old job job.kind j object stripe) x object stripe
-            ≡ b = cc in
-            sym k ∙ cond_true ((object == object) && (stripe == stripe))
-            (Some (block_to_store old job job.kind j object stripe)) (x object stripe)
-            (and_from (object == object) (stripe == stripe) (eq-eqb object object refl)
-            (eq-eqb stripe stripe refl)))
+    some_at : (held : Option Held) → option_map (λ g. g object stripe)
+        (option_map (with_block object stripe (block_to_store old job job.kind j object stripe)) held)
+        ≡ Some b → b ≡ Some (block_to_store old job job.kind j object stripe)
+    some_at None g = cc g
+    some_at (Some x) g = (let f : Some
+        (with_block object stripe (block_to_store old job job.kind j object stripe) x object stripe) ≡ Some b = g in
+        let k : with_block object stripe (block_to_store old job job.kind j object stripe) x object stripe
+        ≡ b = cc in
+        sym k ∙ cond_true ((object == object) && (stripe == stripe))
+        (Some (block_to_store old job job.kind j object stripe)) (x object stripe)
+        (and_from (object == object) (stripe == stripe) (eq-eqb object object refl)
+        (eq-eqb stripe stripe refl)))
 
 module _ (limit moment : ℕ) (old : State) where
   -- of a call that leaves what the provider holds
@@ -171,13 +148,27 @@ module _ (limit moment : ℕ) (old : State) where
     | inr q ↦ Block_is.same (ap (λ f. told (f i) o s) providers ∙ q)
   ]
 
+  -- what is left beside jobs, records and devices
+  rests : (new : State) → (new.next_job ≡ old.next_job) × (new.is_open ≡ old.is_open) ×
+      (new.bytes ≡ old.bytes) × (new.alone ≡ old.alone) × (new.doubt ≡ old.doubt) → Rest old new
+  rests new (next, is_open, bytes, alone, doubt) = record {
+    next = next;
+    is_open = is_open;
+    bytes = bytes;
+    alone = alone;
+    doubt = λ d h. inl (sym doubt ∙ h);
+  }
+
   module _ (job : Job) (runs : job_of old.jobs job.number ≡ Some job) where
     abbrev Result : Outcome → State → Type 0
     Result r new = Changes limit moment old (Step job.number) r new
 
-    on : (action : Action) (g : Given) → Gave old job action (advanced_with job g) →
-        GoesOn old job action (advanced_with job g)
-    on action g gave = record {
+    at : (k : ℕ) → k ≡ job.number → job_of old.jobs k ≡ Some job
+    at k same = rw same runs
+
+    on : (action : Action) (given : List Given) → Gave old job action (record (advanced job) { given = given }) →
+        GoesOn old job action (record (advanced job) { given = given })
+    on action given gave = record {
       gave = gave;
       number = refl;
       kind = refl;
@@ -191,19 +182,7 @@ module _ (limit moment : ℕ) (old : State) where
     }
 
     on_advanced : (action : Action) → IsQuiet action → GoesOn old job action (advanced job)
-    on_advanced action quiet =
-        record {
-          gave = Gave.nothing quiet refl;
-          number = refl;
-          kind = refl;
-          profile = refl;
-          begun = refl;
-          pinned = refl;
-          flagged = refl;
-          subject = refl;
-          older = refl;
-          place = refl;
-        }
+    on_advanced action quiet = on action job.given (Gave.nothing quiet refl)
 
     same_append : (a : Append) → old.append ≡ Some a →
         (b : Append) × (old.append ≡ Some b) × (a.job ≡ b.job) × (a.entry ≡ b.entry)
@@ -213,47 +192,27 @@ module _ (limit moment : ℕ) (old : State) where
     stores : (j object stripe : ℕ) (p : Provider) → next_action old job ≡ Some (Store j object stripe) →
         Stores object stripe (block_to_store old job job.kind j object stripe) (old.providers j) p →
         Result More (record (going_on old (advanced job)) { providers = with_provider old.providers j p })
-    stores j object stripe p next_is call = steps_plainly limit moment old (Step job.number) More _
-        (λ g. g) job (advanced job) (Store j object stripe) runs next_is tt
-        (on_advanced (Store j object stripe) tt) refl same_append refl
-        (record { next = refl; is_open = refl; bytes = refl; alone = refl; doubt = λ d h. inl h })
+    stores j object stripe p next_is call = steps_plainly limit moment old (Step job.number) More _ (λ g. g)
+        job (advanced job) (Store j object stripe) runs next_is tt (on_advanced (Store j object stripe) tt)
+        refl same_append refl (rests _ (refl, refl, refl, refl, refl))
         (λ i o s b e h. stored_value old job j object stripe p call i o s b e h)
         (λ i o s. elim (called old.providers j p i o s) [
           | inl q ↦ elim (set_block object stripe (block_to_store old job job.kind j object stripe)
               (old.providers j).held o s) [
-                | inl hit ↦ Block_is.stored job runs (next_is ∙ ap Some (place i o s q.0 hit.0 hit.1))
+                | inl hit ↦ Block_is.stored job runs (rw (q.0, hit.0, hit.1) next_is)
                     (q.1 ∙ (ap (λ (x : Option Held). option_map (λ (h : Held). h o s) x) call.held
-                    ∙ (hit.2 ∙ same_block i o s q.0 hit.0 hit.1)))
+                    ∙ (hit.2 ∙ rw (q.0, hit.0, hit.1))))
                 | inr miss ↦ Block_is.same
                     (q.1 ∙ (ap (λ (x : Option Held). option_map (λ (h : Held). h o s) x) call.held
                     ∙ (miss ∙ ap (λ n. told (old.providers n) o s) (sym q.0))))
               ]
           | inr q ↦ Block_is.same q
         ])
-      where
-        place : (i o s : ℕ) → i ≡ j → o ≡ object → s ≡ stripe → Store j object stripe ≡ Store i o s
-        place i o s a b c = cc
-
-        same_block : (i o s : ℕ) → i ≡ j → o ≡ object → s ≡ stripe →
-            option_map (λ (h : Held). Some (block_to_store old job job.kind j object stripe))
-            (old.providers j).held ≡ option_map (λ (h : Held). Some (block_to_store old job job.kind i o s))
-            (old.providers i).held
-        same_block i o s a b c =
-            subst (λ n. option_map (λ (h : Held). Some (block_to_store old job job.kind j object stripe))
-            (old.providers j).held ≡ option_map (λ (h : Held). Some (block_to_store old job job.kind n o s))
-            (old.providers n).held) (sym a)
-            (subst (λ n. option_map (λ (h : Held). Some (block_to_store old job job.kind j object stripe))
-            (old.providers j).held ≡ option_map (λ (h : Held). Some (block_to_store old job job.kind j n s))
-            (old.providers j).held) (sym b)
-            (subst (λ n. option_map (λ (h : Held). Some (block_to_store old job job.kind j object stripe))
-            (old.providers j).held
-            ≡ option_map (λ (h : Held). Some (block_to_store old job job.kind j object n))
-            (old.providers j).held) (sym c) refl))
 
     stores_not : (j : ℕ) (p : Provider) (how : Answer) → IsUnstored (old.providers j) p j how →
         Result (Ended how) (record (ended old job) { providers = with_provider old.providers j p })
     stores_not j p how call = ends limit moment old (Step job.number) (Ended how) _ (λ g. g) job.number refl
-        (inl refl) refl (record { next = refl; is_open = refl; bytes = refl; alone = refl; doubt = λ d h. inl h })
+        (inl refl) refl (rests _ (refl, refl, refl, refl, refl))
         (leaves (Step job.number) (Ended how) j p _ (unstored_held (old.providers j) p j how call) refl)
 
     -- a call of a provider that gives something, and leaves what it holds
@@ -261,10 +220,9 @@ module _ (limit moment : ℕ) (old : State) where
         IsPlain action → IsNoStore action → Gave old job action (advanced_with job gift) →
         p.held ≡ (old.providers j).held → Result More
         (record (going_on old (advanced_with job gift)) { providers = with_provider old.providers j p })
-    gives j p action gift next_is plain stores_not gave held =
-        steps_plainly limit moment old (Step job.number) More _ (λ g. g) job (advanced_with job gift) action
-        runs next_is plain (on action gift gave) refl same_append refl
-        (record { next = refl; is_open = refl; bytes = refl; alone = refl; doubt = λ d h. inl h })
+    gives j p action gift next_is plain stores_not gave held = steps_plainly limit moment old
+        (Step job.number) More _ (λ g. g) job (advanced_with job gift) action runs next_is plain
+        (on action _ gave) refl same_append refl (rests _ (refl, refl, refl, refl, refl))
         (λ i o s b e h. absurd (not_stored action i o s stores_not e))
         (leaves (Step job.number) More j p _ held refl)
 
@@ -274,38 +232,31 @@ module _ (limit moment : ℕ) (old : State) where
         Result More (going_on old (advanced_with job (Worked object stripe symbols)))
     works object stripe symbols next_is given = steps_plainly limit moment old (Step job.number) More _
         (λ g. g) job (advanced_with job (Worked object stripe symbols)) (Work object stripe) runs next_is tt
-        (on (Work object stripe) (Worked object stripe symbols)
-        (Gave.worked object stripe symbols refl given refl)) refl same_append refl
-        (record { next = refl; is_open = refl; bytes = refl; alone = refl; doubt = λ d h. inl h })
-        (λ i o s b e h. absurd (not_stored (Work object stripe) i o s tt e))
-        (λ i o s. Block_is.same refl)
+        (on (Work object stripe) _ (Gave.worked object stripe symbols refl given refl)) refl same_append refl
+        (rests _ (refl, refl, refl, refl, refl))
+        (λ i o s b e h. absurd (not_stored (Work object stripe) i o s tt e)) (λ i o s. Block_is.same refl)
 
     removes : (j object : ℕ) (p : Provider) → next_action old job ≡ Some (Remove j object) →
         Removes object (old.providers j) p →
         Result More (record (going_on old (advanced job)) { providers = with_provider old.providers j p })
-    removes j object p next_is call = steps_plainly limit moment old (Step job.number) More _
-        (λ g. g) job (advanced job) (Remove j object) runs next_is tt
-        (on_advanced (Remove j object) tt) refl same_append refl
-        (record { next = refl; is_open = refl; bytes = refl; alone = refl; doubt = λ d h. inl h })
+    removes j object p next_is call = steps_plainly limit moment old (Step job.number) More _ (λ g. g) job
+        (advanced job) (Remove j object) runs next_is tt (on_advanced (Remove j object) tt) refl same_append
+        refl (rests _ (refl, refl, refl, refl, refl))
         (λ i o s b e h. absurd (not_stored (Remove j object) i o s tt e))
         (λ i o s. elim (called old.providers j p i o s) [
           | inl q ↦ elim (removed_block object (old.providers j) p o s call) [
-            | inl hit ↦ Block_is.removed job runs (next_is ∙ ap Some (place i o q.0 hit))
+            | inl hit ↦ Block_is.removed job runs (rw (q.0, hit) next_is)
             | inr miss ↦ Block_is.same (q.1 ∙ (miss ∙ ap (λ n. told (old.providers n) o s) (sym q.0)))
           ]
           | inr q ↦ Block_is.same q
         ])
-      where
-        place : (i o : ℕ) → i ≡ j → o ≡ object → Remove j object ≡ Remove i o
-        place i o a b = cc
 
     -- a job ends, and no device changes but for the disk's count
     ends_so : (r : Outcome) (left : State) → (IsGated old → IsGated left) →
         left.jobs ≡ without_job old.jobs job.number → (left.append ≡ old.append) ⊎ (left.append ≡ None) →
         left.records ≡ old.records → Rest old left → left.providers ≡ old.providers → Result r left
-    ends_so r left gate jobs append records rest providers =
-        ends limit moment old (Step job.number) r left gate job.number jobs append records rest
-        (λ i o s. Block_is.same (ap (λ p. told (p i) o s) providers))
+    ends_so r left gate jobs append records rest providers = ends limit moment old (Step job.number) r left
+        gate job.number jobs append records rest (λ i o s. Block_is.same (ap (λ p. told (p i) o s) providers))
 
     -- moves of the append in flight
     moves_on : (a : Append) (action : Action) (left : State) → (IsGated old → IsGated left) →
@@ -322,12 +273,6 @@ module _ (limit moment : ℕ) (old : State) where
         records rest (λ i o s b e h. absurd (not_stored action i o s stores_not e))
         (λ i o s. Block_is.same (ap (λ p. told (p i) o s) providers))
 
-    first_move : (n : ℕ) (entry : Record) (b : Append) →
-        Some (record { job = n; entry = entry; moves = 1 }) ≡ Some b → b.moves ≡ 3 → ⊥
-    first_move n entry b h three =
-        (let e : record { job = n; entry = entry; moves = 1 } ≡ b = cc in
-        let f : 1 ≡ b.moves = ap (λ (x : Append). x.moves) e in omega arith)
-
     begins_append : (entry : Record) (faults : ℕ) → next_action old job ≡ Some WriteBody →
         old.append ≡ None → Writes old job job.kind entry →
         Result More (record (begun_append old job entry) { disk_faults = faults })
@@ -337,17 +282,18 @@ module _ (limit moment : ℕ) (old : State) where
             | inl p ↦ Job_is.drew job (at k p.0) next_is none p.1 refl
             | inr q ↦ Job_is.kept q.1 (Grown.as_before refl)
           ];
-          append = λ a h. (let f : record { job = job.number; entry = entry; moves = 1 } ≡ a =
-              (let e : Some (record { job = job.number; entry = entry; moves = 1 }) ≡ Some a = h in cc) in
-              Append_is.drew job runs next_is (sym (ap (λ (x : Append). x.job) f))
-              (subst (λ (x : Record). Writes old job job.kind x) (ap (λ (x : Append). x.entry) f) writes)
+          append = λ a h. (let f : record { job = job.number; entry = entry; moves = 1 } ≡ a = cc h in
+              Append_is.drew job runs next_is (sym (ap (λ x. x.job) f))
+              (subst (λ x. Writes old job job.kind x) (ap (λ x. x.entry) f) writes)
               (found_itself old.jobs drawn job runs) refl);
           records = Records_is.same refl;
           doubt = λ d g. Doubt_is.kept g refl;
           numbers = inr (omega arith);
           next = λ k j h. elim (found_with old.jobs drawn k j h)
               [ inl p ↦ inr (inr (job, at k p.0)) | inr q ↦ inr (inl q.1) ];
-          gated = λ g b h three. absurd (first_move job.number entry b h three);
+          gated = λ g b h three. absurd (let e : record { job = job.number; entry = entry; moves = 1 } ≡ b
+              = cc in
+              let f : 1 ≡ b.moves = ap (λ x. x.moves) e in omega arith);
           idle = λ f closed. (let p = f closed in absurd (found_none old.jobs job.number job p.0 runs));
           lone = λ f x h. absurd (found_none old.jobs job.number job (f x h) runs);
           bytes = λ o l. drawn_bytes old job job.kind o l;
@@ -356,9 +302,6 @@ module _ (limit moment : ℕ) (old : State) where
       where
         drawn : Job
         drawn = record (advanced job) { subject = subject_drawn old job job.kind }
-
-        at : (k : ℕ) → k ≡ job.number → job_of old.jobs k ≡ Some job
-        at k same = subst (λ n. job_of old.jobs n ≡ Some job) (sym same) runs
 
     finishes : (a : Append) (faults : ℕ) → next_action old job ≡ Some SyncGate → old.append ≡ Some a →
         a.job ≡ job.number → a.moves ≡ 3 →
@@ -370,13 +313,13 @@ module _ (limit moment : ℕ) (old : State) where
             | inr q ↦ Job_is.kept q.1
                 (Grown.by_other job a runs next_is flight mine (λ same. q.0 (sym same)) refl)
           ];
-          append = λ b h. absurd (let e : None ≡ Some b = h in cc);
+          append = λ b h. absurd (cc h);
           records = Records_is.finished job a runs next_is flight mine at_three refl;
-          doubt = λ d h. absurd (let e : None ≡ Some d = h in cc);
+          doubt = λ d h. absurd (cc h);
           numbers = inr (omega arith);
           next = λ k j h. elim (found_with old.jobs decided k j h)
               [ inl p ↦ inr (inr (job, at k p.0)) | inr q ↦ inr (inl q.1) ];
-          gated = λ g b h three. absurd (let e : None ≡ Some b = h in cc);
+          gated = λ g b h three. absurd (cc h);
           idle = λ f closed. (let p = f closed in absurd (found_none old.jobs job.number job p.0 runs));
           lone = λ f x h. absurd (found_none old.jobs job.number job (f x h) runs);
           bytes = λ o l. refl;
@@ -386,15 +329,6 @@ module _ (limit moment : ℕ) (old : State) where
         decided : Job
         decided = record (advanced job) { older = taken_out old job job.kind }
 
-        at : (k : ℕ) → k ≡ job.number → job_of old.jobs k ≡ Some job
-        at k same = subst (λ n. job_of old.jobs n ≡ Some job) (sym same) runs
-
-    second_move : (a b : Append) → a.moves ≡ 1 → Some (record a { moves = a.moves + 1 }) ≡ Some b →
-        b.moves ≡ 3 → ⊥
-    second_move a b one h three =
-        (let e : record a { moves = a.moves + 1 } ≡ b = cc in
-        let f : a.moves + 1 ≡ b.moves = ap (λ (x : Append). x.moves) e in omega arith)
-
     moved_entry : (a b : Append) → Some (record a { moves = a.moves + 1 }) ≡ Some b → a.entry ≡ b.entry
     moved_entry a b h = (let e : record a { moves = a.moves + 1 } ≡ b = cc in ap (λ (x : Append). x.entry) e)
 
@@ -403,19 +337,17 @@ module _ (limit moment : ℕ) (old : State) where
     in_doubt a d h = (let e : record { entry = a.entry; maker = Some (advanced job) } ≡ d = cc in
         sym (ap (λ (x : Doubt). x.entry) e))
 
-    none_flies : (b : Append) → None ≡ Some b → ⊥
-    none_flies b h = cc
-
     acts : Acting old job (Changes limit moment old (Step job.number))
     acts = record {
       begins = λ entry next none writes faults low. begins_append entry faults next none writes;
       syncs = λ a next flight mine faults low. moves_on a SyncBody _
-          (λ g b h three. absurd (second_move a b mine.1 h three)) tt tt flight next tt refl refl refl
-          (record { next = refl; is_open = refl; bytes = refl; alone = refl; doubt = λ d h. inl h }) refl;
+          (λ g b h three. absurd (let e : record a { moves = a.moves + 1 } ≡ b = cc in
+          let f : a.moves + 1 ≡ b.moves = ap (λ x. x.moves) e in omega arith)) tt tt flight next tt refl
+          refl refl
+          (rests _ (refl, refl, refl, refl, refl)) refl;
       gates = λ a next flight mine faults low. moves_on a WriteGate _
           (λ g b h three. (record { entry = a.entry; maker = Some (advanced job) }, refl, moved_entry a b h))
-          tt tt flight next tt refl refl refl
-          (record {
+          tt tt flight next tt refl refl refl (record {
             next = refl;
             is_open = refl;
             bytes = refl;
@@ -424,11 +356,9 @@ module _ (limit moment : ℕ) (old : State) where
           }) refl;
       finishes = λ a next flight mine faults low. finishes a faults next flight mine.0 mine.1;
       bars = λ action plain next mine faults low rose. ends_so (Ended answer.DiskFault) _
-          (λ g b h three. absurd (none_flies b h)) refl (inr refl) refl
-          (record { next = refl; is_open = refl; bytes = refl; alone = refl; doubt = λ d h. inl h }) refl;
+          (λ g b h three. absurd (cc h)) refl (inr refl) refl (rests _ (refl, refl, refl, refl, refl)) refl;
       bars_gated = λ a next flight mine faults low rose. ends_so (Ended answer.DiskFault) _
-          (λ g b h three. absurd (none_flies b h)) refl (inr refl) refl
-          (record {
+          (λ g b h three. absurd (cc h)) refl (inr refl) refl (record {
             next = refl;
             is_open = refl;
             bytes = refl;
@@ -436,10 +366,9 @@ module _ (limit moment : ℕ) (old : State) where
             doubt = λ d h. inr (a, flight, in_doubt a d h);
           }) refl;
       begins_not = λ next none. ends_so (Ended answer.Memory) _ (λ g. g) refl (inl refl) refl
-          (record { next = refl; is_open = refl; bytes = refl; alone = refl; doubt = λ d h. inl h }) refl;
-      gates_not = λ a next flight mine. ends_so (Ended answer.Memory) _
-          (λ g b h three. absurd (none_flies b h)) refl (inr refl) refl
-          (record { next = refl; is_open = refl; bytes = refl; alone = refl; doubt = λ d h. inl h }) refl;
+          (rests _ (refl, refl, refl, refl, refl)) refl;
+      gates_not = λ a next flight mine. ends_so (Ended answer.Memory) _ (λ g b h three. absurd (cc h)) refl
+          (inr refl) refl (rests _ (refl, refl, refl, refl, refl)) refl;
       stores = λ j o s p next call. stores j o s p next call;
       stores_not = λ j o s p how next call. stores_not j p how call;
       fetches = λ j o s block p next call. gives j p (Fetch j o s) (Fetched j o s block) next tt tt
@@ -449,15 +378,14 @@ module _ (limit moment : ℕ) (old : State) where
       works = λ o s symbols next given. works o s symbols next given;
       removes = λ j o p next call. removes j o p next call;
       ends = λ action how next last. ends_so (Ended how) _ (λ g. g) refl (inl refl) refl
-          (record { next = refl; is_open = refl; bytes = refl; alone = refl; doubt = λ d h. inl h }) refl;
+          (rests _ (refl, refl, refl, refl, refl)) refl;
     }
 
   -- an event that changes nothing of the state but what runs alone, the next job number, the journal and
   -- devices
   abbrev Aside : State → Type 0
   Aside new = (new.jobs ≡ old.jobs) × (new.append ≡ old.append) × (new.records ≡ old.records) ×
-      (new.is_open ≡ old.is_open)
-      × (new.bytes ≡ old.bytes) × (new.doubt ≡ old.doubt)
+      (new.is_open ≡ old.is_open) × (new.bytes ≡ old.bytes) × (new.doubt ≡ old.doubt)
 
   aside : (e : Event) (r : Outcome) (new : State) → old.jobs ≡ [] → old.next_job ≤ new.next_job → Aside new →
       ((i o s : ℕ) → Block_is old e r new i o s) → Changes limit moment old e r new
@@ -486,31 +414,14 @@ module _ (limit moment : ℕ) (old : State) where
       elim (called old.providers j p i o s) [
         | inl q ↦ elim (set_block object stripe (block_to_scrub old scrub j object stripe)
             (old.providers j).held o s) [
-              | inl hit ↦ Block_is.scrubbed scrub rest is (head ∙ same_next q.0 hit.0 hit.1)
-                  (q.1 ∙ (ap (λ (x : Option Held). option_map (λ (h : Held). h o s) x) call.held
-                  ∙ (hit.2 ∙ same_block q.0 hit.0 hit.1)))
-              | inr miss ↦ Block_is.same
-                  (q.1 ∙ (ap (λ (x : Option Held). option_map (λ (h : Held). h o s) x) call.held
+              | inl hit ↦ Block_is.scrubbed scrub rest is (rw (q.0, hit.0, hit.1) head)
+                  (q.1 ∙ (ap (λ x. option_map (λ h. h o s) x) call.held
+                  ∙ (hit.2 ∙ rw (q.0, hit.0, hit.1))))
+              | inr miss ↦ Block_is.same (q.1 ∙ (ap (λ x. option_map (λ h. h o s) x) call.held
                   ∙ (miss ∙ ap (λ n. told (old.providers n) o s) (sym q.0))))
             ]
         | inr q ↦ Block_is.same q
       ]
-    where
-      Same : ℕ → ℕ → ℕ → Type 0
-      Same x y z = option_map (λ (h : Held). Some (block_to_scrub old scrub j object stripe))
-          (old.providers j).held ≡ option_map (λ (h : Held). Some (block_to_scrub old scrub x y z))
-          (old.providers x).held
-
-      Next : ℕ → ℕ → ℕ → Type 0
-      Next x y z = Store j object stripe ∷ rest ≡ Store x y z ∷ rest
-
-      same_next : i ≡ j → o ≡ object → s ≡ stripe → Next i o s
-      same_next a b c = subst (λ n. Next n o s) (sym a)
-          (subst (λ n. Next j n s) (sym b) (subst (λ n. Next j object n) (sym c) refl))
-
-      same_block : i ≡ j → o ≡ object → s ≡ stripe → Same i o s
-      same_block a b c = subst (λ n. Same n o s) (sym a)
-          (subst (λ n. Same j n s) (sym b) (subst (λ n. Same j object n) (sym c) refl))
 
   -- a step of what runs alone
   besides : (number : ℕ) (x : Alone) → old.alone ≡ Some x → old.jobs ≡ [] →
@@ -551,7 +462,7 @@ module _ (limit moment : ℕ) (old : State) where
           | inr q ↦ inr (inl q)
         ];
         gated = λ g. g;
-        lone = λ f x e. absurd (let g : None ≡ Some x = sym (none_lone limit old kind profile allowed) ∙ e in cc);
+        lone = λ f x e. absurd (cc (sym (none_lone limit old kind profile allowed) ∙ e));
         idle = λ f closed. absurd (false≢true (sym closed ∙ is_open));
         bytes = λ o l. refl;
         block = λ i o s. Block_is.same refl;
@@ -559,8 +470,7 @@ module _ (limit moment : ℕ) (old : State) where
 
   -- begins of what runs alone
   nothing_runs : (more : List Cause) → alone_refusal old more ≡ None → old.jobs ≡ []
-  nothing_runs more h =
-      no_jobs old.jobs (left_false (nat_lt 0 (length old.jobs)) (is_some old.alone)
+  nothing_runs more h = no_jobs old.jobs (left_false (nat_lt 0 (length old.jobs)) (is_some old.alone)
       (second_false old.is_barred (nat_lt 0 (length old.jobs) || is_some old.alone) more h))
     where
       no_jobs : (js : List Job) → nat_lt 0 (length js) ≡ false → js ≡ []
@@ -572,8 +482,8 @@ module _ (limit moment : ℕ) (old : State) where
             applies = b;
             refusal = refusal.Busy;
           } ∷ more) ≡ None → b ≡ false
-      second_false true b more e = (let f : Some refusal.MustReopen ≡ None = e in cc)
-      second_false false true more e = (let f : Some refusal.Busy ≡ None = e in cc)
+      second_false true b more e = cc e
+      second_false false true more e = cc e
       second_false false false more e = refl
 
   begins_alone : (e : Event) (more : List Cause) (x : Alone) → alone_refusal old more ≡ None →
@@ -590,9 +500,8 @@ module _ (limit moment : ℕ) (old : State) where
   gives_all_up : (e : Event) (r : Outcome) (new : State) → new.jobs ≡ [] → new.append ≡ None →
       Records_is old new → new.providers ≡ old.providers → new.bytes ≡ old.bytes → new.doubt ≡ None →
       Changes limit moment old e r new
-  gives_all_up e r new jobs append records providers bytes none =
-      gives_up limit moment old e r new jobs append records providers bytes
-      (λ d h. absurd (let f : None ≡ Some d = sym none ∙ h in cc))
+  gives_all_up e r new jobs append records providers bytes none = gives_up limit moment old e r new jobs
+      append records providers bytes (λ d h. absurd (cc (sym none ∙ h)))
 
   set_up_of : (s : Setup) (rs : List Record) (new : State) → new.records ≡ SetUp s ∷ rs → setup_of rs ≡ None →
       AreSettled old rs → Records_is old new
@@ -619,8 +528,7 @@ module _ (limit moment : ℕ) (old : State) where
     begins_at = λ profile name bytes is_open allowed.
         begins (BeginAt profile name bytes) (PutJob name bytes) (Some profile) is_open allowed;
     scrub = λ allowed. begins_alone BeginScrub [] _ allowed;
-    pack = λ allowed. begins_alone BeginPack
-        (pack_causes (version_of old.records) old.area old.journal) _ allowed;
+    pack = λ allowed. begins_alone BeginPack (pack_causes (version_of old.records) old.area old.journal) _ allowed;
     stops = λ picks rs js area so.
         gives_all_up (Stop picks) Stopped _ refl refl (settles rs _ refl so) refl refl refl;
     opens = λ rs js area so up faults low.
@@ -636,14 +544,12 @@ module _ (limit moment : ℕ) (old : State) where
         (λ d h. left_doubt s doubt so d h _ refl));
     is_set_up = λ s rs js closed so faults low. (let idle = quiet.idle closed in
         gives_all_up (Init s) (Refused refusal.Already) _ idle.0 idle.1 (settles rs _ refl so) refl refl refl);
-    replaces = λ e j IsThere changed p still counts call.
-        only_devices limit moment old e Replaced _ (λ g. g) refl refl refl
-        (record { next = refl; is_open = refl; bytes = refl; alone = refl; doubt = λ d h. inl h })
+    replaces = λ e j IsThere changed p still counts call. only_devices limit moment old e Replaced _ (λ g. g)
+        refl refl refl (rests _ (refl, refl, refl, refl, refl))
         (λ i o s. elim (called old.providers j p i o s)
         [ inl q ↦ Block_is.replaced (counts i q.0) | inr q ↦ Block_is.same q ]);
-    replaces_not = λ e j IsThere changed p still call.
-        only_devices limit moment old e NothingHeld _ (λ g. g) refl refl refl
-        (record { next = refl; is_open = refl; bytes = refl; alone = refl; doubt = λ d h. inl h })
+    replaces_not = λ e j IsThere changed p still call. only_devices limit moment old e NothingHeld _ (λ g. g)
+        refl refl refl (rests _ (refl, refl, refl, refl, refl))
         (λ i o s. elim (called old.providers j p i o s) [
           | inl q ↦ Block_is.same
               (q.1 ∙ (kept_told IsThere changed (old.providers j).held (old.providers j) p o s refl call

@@ -50,8 +50,7 @@ fair s job (PutJob name bytes) = (
       (
         tt,
         each_append (IsFair job (PutJob name bytes)) (store_actions s job bytes)
-            (append_actions ++ (remove_actions s job ++ End ∷ []))
-            (each_flat (IsFair job (PutJob name bytes))
+            (append_actions ++ (remove_actions s job ++ End ∷ [])) (each_flat (IsFair job (PutJob name bytes))
             (λ stripe. on_each_provider s (λ j. Store j job.subject stripe))
             (upto (stripes_of (profiled s job.profile) (length bytes)))
             (λ stripe. each_map (IsFair job (PutJob name bytes)) (λ j. Store j job.subject stripe) (upto s.n)
@@ -74,15 +73,12 @@ fair s job (PutJob name bytes) = (
   ),
 )
 fair s job (GetJob name) = each_append (IsFair job (GetJob name)) (read_actions s job.pinned) (End ∷ [])
-    (each_flat (IsFair job (GetJob name))
-    (λ (f : Pinned). on_each_stripe (profiled s f.profile) (length f.bytes) (open_actions s f.id))
-    job.pinned
-    (λ f. each_flat (IsFair job (GetJob name)) (open_actions s f.id)
-    (upto (stripes_of (profiled s f.profile) (length f.bytes)))
+    (each_flat (IsFair job (GetJob name)) (λ (f : Pinned). on_each_stripe (profiled s f.profile)
+    (length f.bytes) (open_actions s f.id)) job.pinned (λ f. each_flat (IsFair job (GetJob name))
+    (open_actions s f.id) (upto (stripes_of (profiled s f.profile) (length f.bytes)))
     (λ stripe. each_append (IsFair job (GetJob name)) (on_each_provider s (λ j. Fetch j f.id stripe))
     (Work f.id stripe ∷ [])
-    (each_map (IsFair job (GetJob name)) (λ j. Fetch j f.id stripe) (upto s.n) (λ j. tt)) (tt, tt))))
-    (tt, tt)
+    (each_map (IsFair job (GetJob name)) (λ j. Fetch j f.id stripe) (upto s.n) (λ j. tt)) (tt, tt)))) (tt, tt)
 fair s job (DropJob name) = (
   tt,
   (
@@ -118,34 +114,28 @@ fair s job AuditJob = (
   ),
 )
 fair s job RepairJob = each_append (IsFair job RepairJob) (repair_actions s job) (append_actions ++ End ∷ [])
-    (each_flat_in (IsFair job RepairJob)
-    (λ (f : Pinned). on_each_stripe (profiled s f.profile) (length f.bytes)
-    (λ stripe. open_actions s f.id stripe ++ rewrite_actions s job f.id stripe)) job.pinned
-    (λ f i. each_flat (IsFair job RepairJob)
-    (λ stripe. open_actions s f.id stripe ++ rewrite_actions s job f.id stripe)
-    (upto (stripes_of (profiled s f.profile) (length f.bytes)))
+    (each_flat_in (IsFair job RepairJob) (λ (f : Pinned). on_each_stripe (profiled s f.profile)
+    (length f.bytes) (λ stripe. open_actions s f.id stripe ++ rewrite_actions s job f.id stripe)) job.pinned
+    (λ f i. each_flat (IsFair job RepairJob) (λ stripe. open_actions s f.id stripe ++ rewrite_actions s job
+    f.id stripe) (upto (stripes_of (profiled s f.profile) (length f.bytes)))
     (λ stripe. each_append (IsFair job RepairJob) (open_actions s f.id stripe)
-    (rewrite_actions s job f.id stripe)
-    (each_append (IsFair job RepairJob) (on_each_provider s (λ j. Fetch j f.id stripe))
-    (Work f.id stripe ∷ [])
+    (rewrite_actions s job f.id stripe) (each_append (IsFair job RepairJob)
+    (on_each_provider s (λ j. Fetch j f.id stripe)) (Work f.id stripe ∷ [])
     (each_map (IsFair job RepairJob) (λ j. Fetch j f.id stripe) (upto s.n) (λ j. tt)) (tt, tt))
     (each_flat (IsFair job RepairJob) (λ j. cond (job.flagged j) (Store j f.id stripe ∷ []) []) (upto s.n)
     (λ j. fair_cond job RepairJob (job.flagged j) (Store j f.id stripe)
-    (record { file = f; pinned = i; id_is = refl }))))))
-    (tt, (tt, (tt, (tt, (tt, tt)))))
+    (record { file = f; pinned = i; id_is = refl })))))) (tt, (tt, (tt, (tt, (tt, tt)))))
 fair s job UpgradeJob = (tt, (tt, (tt, (tt, (tt, tt)))))
 
 fair_by : (w : State) (job : Job) (kind : Kind) (place : ℕ) (action : Action) →
     next_by w job kind place ≡ Some action → IsFair job kind action
 fair_by w job (DropJob name) place action h = elim (cases_Bool (is_idle_drop w job (DropJob name))) [
-  | inl t ↦ subst (IsFair job (DropJob name))
-      (let e : Some End ≡ Some action =
-      sym (cond_true (is_idle_drop w job (DropJob name)) (Some End)
+  | inl t ↦ subst (IsFair job (DropJob name)) (let e : Some End ≡ Some action = sym
+      (cond_true (is_idle_drop w job (DropJob name)) (Some End)
       (slice_get (actions_by (setup_in w) job (DropJob name)) place) t) ∙ h in
       let f : End ≡ action = cc in f) tt
   | inr f ↦ each_get (IsFair job (DropJob name)) (actions_by (setup_in w) job (DropJob name)) place action
-      (fair (setup_in w) job (DropJob name))
-      (sym (cond_false (is_idle_drop w job (DropJob name)) (Some End)
+      (fair (setup_in w) job (DropJob name)) (sym (cond_false (is_idle_drop w job (DropJob name)) (Some End)
       (slice_get (actions_by (setup_in w) job (DropJob name)) place) f) ∙ h)
 ]
 fair_by w job kind place action h = each_get (IsFair job kind)

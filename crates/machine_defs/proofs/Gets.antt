@@ -1,7 +1,6 @@
 -- A get gives what its fetches open to.
-use Rattle.machine_defs.proofs.Words.{◌≡◌, cond, ◌&&◌, refl, ap, sym, subst, ◌∙◌, inl, inr, arith, is_some, slice_get, cases_Bool, cases_lt, and_parts, eqb-true, eq-eqb, each_get, map-same, upto, GivesSymbols, Setup, is_name, File, setup_of, GetJob, aim_of, Pinned, Given, Fetched, Answered, Worked, Job, job_of, object_of, profiled, pinned_stripes, Action, WriteBody, SyncGate, Fetch, Ask, Work, End, read_actions, actions_of, State, IsStart, setup_in, object_in, file_object, file_in, refusal_of_begin, pinned_file, pin_found, pinned_for, sight_of, is_busy, block_given, blocks_given, symbols_given, file_given, pinned_profile, next_action, GotBytes, Ends, Moment, now, first_moments, IsRun, entries_of, heard_by_kind, heard_by, given_to}
+use Rattle.machine_defs.proofs.Words.{◌≡◌, cond, ◌&&◌, refl, ap, sym, subst, ◌∙◌, inl, inr, arith, is_some, slice_get, cases_Bool, cases_lt, and_parts, eqb-true, eq-eqb, each_get, map-same, upto, GivesSymbols, Setup, is_name, File, setup_of, GetJob, aim_of, Pinned, Given, Fetched, Answered, Worked, Job, job_of, object_of, profiled, pinned_stripes, Action, WriteBody, SyncGate, Fetch, Work, End, read_actions, actions_of, State, IsStart, setup_in, object_in, file_in, refusal_of_begin, pinned_file, pin_found, pinned_for, sight_of, is_busy, block_given, blocks_given, symbols_given, file_given, pinned_profile, next_action, GotBytes, Ends, Moment, now, first_moments, IsRun, entries_of, heard_by_kind, heard_by, given_to}
 use Rattle.std.proofs.Common.{ℕ, ◌+◌, ◌<◌, ◌==◌, List, [], ◌∷◌, ◌++◌, length, Option, Some, None}
-use Rattle.machine_defs.specs.Refusals as refusal
 use Rattle.machine_defs.specs.Answers as answer
 use Rattle.machine_defs.specs.Halves.{GotIsOpened}
 use Rattle.machine_defs.proofs.JobLists.{cond_true, cond_false, same_value, found_none}
@@ -22,17 +21,16 @@ pub get_file : (limit : ℕ) (w : State) (name : List ℕ) (profile : Option ℕ
     file_in w name ≡ o → refusal_of_begin limit w (GetJob name) profile ≡ None →
     (f : File) × (file_in w name ≡ Some f)
 get_file limit w name profile (Some f) is h = (f, is)
-get_file limit w name profile None is h =
-    absurd (let none = stored-file w name ∙ ap is_some is in elim (cases_Bool w.is_barred) [
-      | inl a ↦ (let e = rw a at h in let f : Some refusal.MustReopen ≡ None = e in cc)
-      | inr a ↦ elim (cases_Bool (is_busy limit (sight_of w) (aim_of (GetJob name)))) [
-        | inl b ↦ (let e = rw (a, b) at h in let f : Some refusal.Busy ≡ None = e in cc)
-        | inr b ↦ elim (cases_Bool (is_name name)) [
-          | inl c ↦ (let e = rw (a, b, c, none) at h in let f : Some refusal.NoSuchName ≡ None = e in cc)
-          | inr c ↦ (let e = rw (a, b, c) at h in let f : Some refusal.BadName ≡ None = e in cc)
-        ]
-      ]
-    ])
+get_file limit w name profile None is h = absurd (elim (cases_Bool w.is_barred) [
+  | inl a ↦ (let e = rw a at h in cc e)
+  | inr a ↦ elim (cases_Bool (is_busy limit (sight_of w) (aim_of (GetJob name)))) [
+    | inl b ↦ (let e = rw (a, b) at h in cc e)
+    | inr b ↦ elim (cases_Bool (is_name name)) [
+      | inl c ↦ (let e = rw (a, b, c, stored-file w name ∙ ap is_some is) at h in cc e)
+      | inr c ↦ (let e = rw (a, b, c) at h in cc e)
+    ]
+  ]
+])
 
 -- ---- what was given, with one gift more
 
@@ -67,8 +65,7 @@ opened_by : (t : Setup) (p id : ℕ) (given more : List Given) (s : ℕ) →
     symbols_given more id s ≡ symbols_given given id s → Opened t p id given s → Opened t p id more s
 opened_by t p id given more s blocks symbols h =
     subst (GivesSymbols (object_of (profiled t p) id) s (blocks_given more t.n id s)) (sym symbols)
-    (subst (λ b. GivesSymbols (object_of (profiled t p) id) s b (symbols_given given id s))
-    (sym (map-same (block_given more id s) (block_given given id s) (upto t.n) blocks)) h)
+    (rw (← (map-same (block_given more id s) (block_given given id s) (upto t.n) blocks)) at h)
 
 -- ---- the actions of a get
 
@@ -116,37 +113,34 @@ pub record Facts (start : State) (ms : List Moment) : Type 0 where
 
 module _ (limit : ℕ) (start : State) (m : Moment) (ms : List Moment) (A : All start ms) (F : Facts start ms)
     (X : Changes limit (length ms) (now start ms) m.event m.outcome m.state) where
+  abbrev old : State
+  old = now start ms
+
   file_step : (k : ℕ) (j : Job) (name : List ℕ) → job_of m.state.jobs k ≡ Some j → j.kind ≡ GetJob name →
       HasFile (begin_of start (m ∷ ms) j) m.state j name
   file_step k j name h kind = elim (pins_is limit start m ms A.numbers A.pins X k j h) [
-    | Pins_is.had x runs pinned kind_x begun g ↦
-        (let f = F.file k x name runs (sym kind_x ∙ kind) in
-        let same : begin_of start ms x ≡ begin_of start (m ∷ ms) j =
+    | Pins_is.had x runs pinned kind_x begun g ↦ (let f = F.file k x name runs (sym kind_x ∙ kind) in
+        let same =
         ap (now start) (sym (ap (λ n. first_moments n (m ∷ ms)) begun
         ∙ first_more x.begun m ms (A.held.begun k x runs))) in
         record {
           file = f.file;
-          in_effect = ap (λ (b : State). file_in b name) (sym same) ∙ f.in_effect;
-          pinned = pinned ∙ (f.pinned ∙ ap (λ (b : State). pinned_file b f.file ∷ []) same);
+          in_effect = ap (λ b. file_in b name) (sym same) ∙ f.in_effect;
+          pinned = pinned ∙ (f.pinned ∙ ap (λ b. pinned_file b f.file ∷ []) same);
           setup = setup_kept limit start m ms A.numbers A.pins X k j h
-              ∙ (f.setup ∙ ap (λ (b : State). setup_of b.records) same);
+              ∙ (f.setup ∙ ap (λ b. setup_of b.records) same);
         })
-    | Pins_is.new_one kd wish is k_is allowed rec ↦
-        (let kd_is : kd ≡ GetJob name = sym (ap (λ (x : Job). x.kind) is) ∙ kind in
-        let g = get_file limit (now start ms) name wish (file_in (now start ms) name) refl
-        (subst (λ kk. refusal_of_begin limit (now start ms) kk wish ≡ None) kd_is allowed) in
-        let begun : j.begun ≡ length ms = ap (λ (x : Job). x.begun) is in
-        let same : now start ms ≡ begin_of start (m ∷ ms) j =
-        ap (now start) (sym (ap (λ n. first_moments n (m ∷ ms)) begun
+    | Pins_is.new_one kd wish is k_is allowed rec ↦ (let kd_is = sym (ap (λ x. x.kind) is) ∙ kind in
+        let g = get_file limit old name wish (file_in old name) refl (rw kd_is at allowed) in
+        let same =
+        ap (now start) (sym (ap (λ n. first_moments n (m ∷ ms)) (ap (λ (x : Job). x.begun) is)
         ∙ (first_more (length ms) m ms (omega arith) ∙ first_all ms))) in
         record {
           file = g.0;
-          in_effect = ap (λ (b : State). file_in b name) (sym same) ∙ g.1;
-          pinned = ap (λ (x : Job). x.pinned) is
-              ∙ (ap (λ kk. pinned_for (now start ms) kk) kd_is
-              ∙ (ap (pin_found (pinned_file (now start ms))) g.1
-              ∙ ap (λ (b : State). pinned_file b g.0 ∷ []) same));
-          setup = ap setup_of rec ∙ ap (λ (b : State). setup_of b.records) same;
+          in_effect = ap (λ b. file_in b name) (sym same) ∙ g.1;
+          pinned = ap (λ x. x.pinned) is ∙ (ap (λ kk. pinned_for old kk) kd_is
+              ∙ (ap (pin_found (pinned_file old)) g.1 ∙ ap (λ b. pinned_file b g.0 ∷ []) same));
+          setup = ap setup_of rec ∙ ap (λ b. setup_of b.records) same;
         })
   ]
 
@@ -154,150 +148,121 @@ module _ (limit : ℕ) (start : State) (m : Moment) (ms : List Moment) (A : All 
   module _ (k : ℕ) (j : Job) (name : List ℕ) (f : Pinned) (q o s : ℕ)
       (h : job_of m.state.jobs k ≡ Some j) (kind : j.kind ≡ GetJob name) (pinned : j.pinned ≡ f ∷ [])
       (early : q < j.place) (at : slice_get (actions_of (setup_in m.state) j) q ≡ Some (Work o s)) where
-    same_setup : setup_in m.state ≡ setup_in (now start ms)
-    same_setup = setup_same m.state (now start ms) (setup_kept limit start m ms A.numbers A.pins X k j h)
+    same_setup : setup_in m.state ≡ setup_in old
+    same_setup = setup_same m.state old (setup_kept limit start m ms A.numbers A.pins X k j h)
 
-    at_old : slice_get (actions_of (setup_in (now start ms)) j) q ≡ Some (Work o s)
+    at_old : slice_get (actions_of (setup_in old) j) q ≡ Some (Work o s)
     at_old = subst (λ t. slice_get (actions_of t j) q ≡ Some (Work o s)) same_setup at
 
     at_x : (x : Job) → x.kind ≡ GetJob name → x.pinned ≡ f ∷ [] →
-        slice_get (actions_of (setup_in (now start ms)) x) q ≡ Some (Work o s)
-    at_x x kx px = ap (λ l. slice_get l q) (get_actions (setup_in (now start ms)) x name f kx px
-        ∙ sym (get_actions (setup_in (now start ms)) j name f kind pinned)) ∙ at_old
+        slice_get (actions_of (setup_in old) x) q ≡ Some (Work o s)
+    at_x x kx px = ap (λ l. slice_get l q) (get_actions (setup_in old) x name f kx px
+        ∙ sym (get_actions (setup_in old) j name f kind pinned)) ∙ at_old
 
     not_end : Work o s ≡ End → ⊥
     not_end e = cc
 
-    stands : (x : Job) → x.kind ≡ GetJob name → x.pinned ≡ f ∷ [] →
-        slice_get (flat (setup_in (now start ms)) f.id (upto (pinned_stripes (setup_in (now start ms)) f)))
-        q ≡ Some (Work o s)
-    stands x kx px = in_flat (setup_in (now start ms)) x name f q (Work o s) kx px not_end (at_x x kx px)
+    stands : (x : Job) → x.kind ≡ GetJob name → x.pinned ≡ f ∷ [] → slice_get
+        (flat (setup_in old) f.id (upto (pinned_stripes (setup_in old) f))) q ≡ Some (Work o s)
+    stands x kx px = in_flat (setup_in old) x name f q (Work o s) kx px not_end (at_x x kx px)
 
-    here : (x : Job) (action : Action) → next_action (now start ms) x ≡ Some action → x.kind ≡ GetJob name →
-        slice_get (actions_of (setup_in (now start ms)) x) x.place ≡ Some action
-    here x action next_is kx = sym (get_next (now start ms) x name kx) ∙ next_is
+    here : (x : Job) (action : Action) → next_action old x ≡ Some action → x.kind ≡ GetJob name →
+        slice_get (actions_of (setup_in old) x) x.place ≡ Some action
+    here x action next_is kx = sym (get_next old x name kx) ∙ next_is
 
-    by_quiet : (x : Job) (action : Action) → job_of (now start ms).jobs k ≡ Some x →
-        next_action (now start ms) x ≡ Some action → x.kind ≡ GetJob name → x.pinned ≡ f ∷ [] →
-        j.pinned ≡ x.pinned → j.place ≡ x.place + 1 →
-        IsQuiet action → j.given ≡ x.given → Opened (setup_in (now start ms)) f.profile f.id j.given s
+    -- where the work does not stand before the action that is made now, it is that one
+    made_now : (x : Job) (action : Action) → next_action old x ≡ Some action → x.kind ≡ GetJob name →
+        x.pinned ≡ f ∷ [] → q ≡ x.place → action ≡ Work o s
+    made_now x action next_is kx px q_is =
+        same_value _ action (Work o s) (here x action next_is kx) (rw q_is at (at_x x kx px))
+
+    by_quiet : (x : Job) (action : Action) → job_of old.jobs k ≡ Some x → next_action old x ≡ Some action →
+        x.kind ≡ GetJob name → x.pinned ≡ f ∷ [] → j.pinned ≡ x.pinned → j.place ≡ x.place + 1 →
+        IsQuiet action → j.given ≡ x.given → Opened (setup_in old) f.profile f.id j.given s
     by_quiet x action runs next_is kx px pp place quiet given = elim (cases_lt q x.place) [
-      | inl l ↦ subst (λ g. Opened (setup_in (now start ms)) f.profile f.id g s) (sym given)
-          (F.opened k x name f q o s runs kx px l (at_x x kx px))
-      | inr l ↦ absurd (let q_is : q ≡ x.place = omega arith in
-          subst IsQuiet (same_value _ action (Work o s) (here x action next_is kx)
-          (subst (λ n. slice_get (actions_of (setup_in (now start ms)) x) n ≡ Some (Work o s)) q_is
-          (at_x x kx px))) quiet)
+      | inl l ↦ (rw (← given) at (F.opened k x name f q o s runs kx px l (at_x x kx px)))
+      | inr l ↦ absurd (subst IsQuiet (made_now x action next_is kx px (omega arith)) quiet)
     ]
 
     -- the work that was made before stands before what is made now
     before_now : (x : Job) → q < x.place → x.kind ≡ GetJob name → x.pinned ≡ f ∷ [] →
-        job_of (now start ms).jobs k ≡ Some x → Opened (setup_in (now start ms)) f.profile f.id x.given s
+        job_of old.jobs k ≡ Some x → Opened (setup_in old) f.profile f.id x.given s
     before_now x l kx px runs = F.opened k x name f q o s runs kx px l (at_x x kx px)
 
-    by_gave : (x : Job) (action : Action) → job_of (now start ms).jobs k ≡ Some x →
-        next_action (now start ms) x ≡ Some action → x.kind ≡ GetJob name → x.pinned ≡ f ∷ [] →
-        j.pinned ≡ x.pinned → j.place ≡ x.place + 1 →
-        Gave (now start ms) x action j → Opened (setup_in (now start ms)) f.profile f.id j.given s
+    by_gave : (x : Job) (action : Action) → job_of old.jobs k ≡ Some x → next_action old x ≡ Some action →
+        x.kind ≡ GetJob name → x.pinned ≡ f ∷ [] → j.pinned ≡ x.pinned → j.place ≡ x.place + 1 →
+        Gave old x action j → Opened (setup_in old) f.profile f.id j.given s
     by_gave x action runs next_is kx px pp place (Gave.nothing quiet given) =
         by_quiet x action runs next_is kx px pp place quiet given
     by_gave x action runs next_is kx px pp place (Gave.fetched i o2 s2 block act given) =
         elim (cases_lt q x.place) [
-          | inl l ↦
-              (let fetch = in_flat (setup_in (now start ms)) x name f x.place (Fetch i o2 s2) kx px (λ e. cc)
-              (here x (Fetch i o2 s2) (next_is ∙ ap Some act) kx) in
-              let apart : s ≡ s2 → ⊥ =
-              (λ e. (let r = order (setup_in (now start ms)) f.id
-              (pinned_stripes (setup_in (now start ms)) f) 0 q x.place i o o2 s2
-              (subst (λ n. slice_get
-              (flat (setup_in (now start ms)) f.id (upto (pinned_stripes (setup_in (now start ms)) f)))
+          | inl l ↦ (let fetch = in_flat (setup_in old) x name f x.place (Fetch i o2 s2) kx px
+              (λ e. cc) (here x (Fetch i o2 s2) (next_is ∙ ap Some act) kx) in
+              let apart : s ≡ s2 → ⊥ = (λ e. (let r = order (setup_in old) f.id
+              (pinned_stripes (setup_in old) f) 0 q x.place i o o2 s2 (subst (λ n. slice_get
+              (flat (setup_in old) f.id (upto (pinned_stripes (setup_in old) f)))
               q ≡ Some (Work o n)) e (stands x kx px)) fetch in omega arith)) in
-              subst (λ g. Opened (setup_in (now start ms)) f.profile f.id g s) (sym given)
-              (opened_by (setup_in (now start ms)) f.profile f.id x.given (Fetched i o2 s2 block ∷ x.given) s
+              subst (λ g. Opened (setup_in old) f.profile f.id g s) (sym given)
+              (opened_by (setup_in old) f.profile f.id x.given (Fetched i o2 s2 block ∷ x.given) s
               (λ n. block_skips i o2 s2 block x.given f.id s n apart) refl (before_now x l kx px runs)))
-          | inr l ↦ absurd (let q_is : q ≡ x.place = omega arith in
-              let e : Fetch i o2 s2 ≡ Work o s = same_value _ (Fetch i o2 s2) (Work o s)
-              (here x (Fetch i o2 s2) (next_is ∙ ap Some act) kx)
-              (subst (λ n. slice_get (actions_of (setup_in (now start ms)) x) n ≡ Some (Work o s)) q_is
-              (at_x x kx px)) in cc)
+          | inr l ↦ absurd (cc (sym act ∙ made_now x action next_is kx px (omega arith)))
         ]
     by_gave x action runs next_is kx px pp place (Gave.answered i o2 r symbol act given) =
         elim (cases_lt q x.place) [
-          | inl l ↦ subst (λ g. Opened (setup_in (now start ms)) f.profile f.id g s) (sym given)
-              (opened_by (setup_in (now start ms)) f.profile f.id x.given (Answered i o2 r symbol ∷ x.given) s
+          | inl l ↦ subst (λ g. Opened (setup_in old) f.profile f.id g s) (sym given)
+              (opened_by (setup_in old) f.profile f.id x.given (Answered i o2 r symbol ∷ x.given) s
               (λ n. refl) refl (before_now x l kx px runs))
-          | inr l ↦ absurd (let q_is : q ≡ x.place = omega arith in
-              let e : Ask i o2 r ≡ Work o s = same_value _ (Ask i o2 r) (Work o s)
-              (here x (Ask i o2 r) (next_is ∙ ap Some act) kx)
-              (subst (λ n. slice_get (actions_of (setup_in (now start ms)) x) n ≡ Some (Work o s)) q_is
-              (at_x x kx px)) in cc)
+          | inr l ↦ absurd (cc (sym act ∙ made_now x action next_is kx px (omega arith)))
         ]
     by_gave x action runs next_is kx px pp place (Gave.worked o2 s2 symbols act gives given) =
         elim (cases_lt q x.place) [
-          | inl l ↦
-              (let work = in_flat (setup_in (now start ms)) x name f x.place (Work o2 s2) kx px (λ e. cc)
-              (here x (Work o2 s2) (next_is ∙ ap Some act) kx) in
-              let apart : s ≡ s2 → ⊥ =
-              (λ e. (let r = once (setup_in (now start ms)) f.id
-              (pinned_stripes (setup_in (now start ms)) f) 0 q x.place o o2 s2
-              (subst (λ n. slice_get
-              (flat (setup_in (now start ms)) f.id (upto (pinned_stripes (setup_in (now start ms)) f)))
+          | inl l ↦ (let work = in_flat (setup_in old) x name f x.place (Work o2 s2) kx px
+              (λ e. cc) (here x (Work o2 s2) (next_is ∙ ap Some act) kx) in
+              let apart : s ≡ s2 → ⊥ = (λ e. (let r = once (setup_in old) f.id
+              (pinned_stripes (setup_in old) f) 0 q x.place o o2 s2 (subst (λ n. slice_get
+              (flat (setup_in old) f.id (upto (pinned_stripes (setup_in old) f)))
               q ≡ Some (Work o n)) e (stands x kx px)) work in omega arith)) in
-              subst (λ g. Opened (setup_in (now start ms)) f.profile f.id g s) (sym given)
-              (opened_by (setup_in (now start ms)) f.profile f.id x.given (Worked o2 s2 symbols ∷ x.given) s
+              subst (λ g. Opened (setup_in old) f.profile f.id g s) (sym given)
+              (opened_by (setup_in old) f.profile f.id x.given (Worked o2 s2 symbols ∷ x.given) s
               (λ n. refl) (symbols_skip o2 s2 symbols x.given f.id s apart) (before_now x l kx px runs)))
-          | inr l ↦
-              (let q_is : q ≡ x.place = omega arith in
-              let e : Work o2 s2 ≡ Work o s = same_value _ (Work o2 s2) (Work o s)
-              (here x (Work o2 s2) (next_is ∙ ap Some act) kx)
-              (subst (λ n. slice_get (actions_of (setup_in (now start ms)) x) n ≡ Some (Work o s)) q_is
-              (at_x x kx px)) in
+          | inr l ↦ (let e = sym act ∙ made_now x action next_is kx px (omega arith) in
               let o_is : o2 ≡ o = cc in
               let s_is : s2 ≡ s = cc in
-              let id_is : o ≡ f.id =
-              (each_get (From (setup_in (now start ms)) f.id 0)
-              (flat (setup_in (now start ms)) f.id (upto (pinned_stripes (setup_in (now start ms)) f))) q
-              (Work o s) (from (setup_in (now start ms)) f.id
-              (pinned_stripes (setup_in (now start ms)) f) 0) (stands x kx px)).1 in
-              subst (λ g. Opened (setup_in (now start ms)) f.profile f.id g s) (sym given)
-              (worked_here (o_is ∙ id_is) s_is
-              (subst (λ p. GivesSymbols (object_in (now start ms) p o2) s2
-              (blocks_given x.given (setup_in (now start ms)).n o2 s2) symbols)
-              (own_profile (setup_in (now start ms)).profile x.pinned f o2 px (o_is ∙ id_is)) gives)))
+              let id_is : o ≡ f.id = (each_get (From (setup_in old) f.id 0)
+              (flat (setup_in old) f.id (upto (pinned_stripes (setup_in old) f))) q
+              (Work o s) (from (setup_in old) f.id (pinned_stripes (setup_in old) f) 0) (stands x kx px)).1 in
+              subst (λ g. Opened (setup_in old) f.profile f.id g s) (sym given)
+              (worked_here (o_is ∙ id_is) s_is (subst (λ p. GivesSymbols (object_in old p o2) s2
+              (blocks_given x.given (setup_in old).n o2 s2) symbols)
+              (own_profile (setup_in old).profile x.pinned f o2 px (o_is ∙ id_is)) gives)))
         ]
       where
-        worked_here : o2 ≡ f.id → s2 ≡ s →
-            GivesSymbols (object_in (now start ms) f.profile o2) s2
-            (blocks_given x.given (setup_in (now start ms)).n o2 s2) symbols →
-            Opened (setup_in (now start ms)) f.profile f.id (Worked o2 s2 symbols ∷ x.given) s
-        worked_here a b g =
-            subst (λ n. Opened (setup_in (now start ms)) f.profile f.id (Worked o2 s2 symbols ∷ x.given) n) b
-            (subst (λ n. Opened (setup_in (now start ms)) f.profile n (Worked o2 s2 symbols ∷ x.given) s2) a
-            (subst (GivesSymbols (object_in (now start ms) f.profile o2) s2
-            (blocks_given (Worked o2 s2 symbols ∷ x.given) (setup_in (now start ms)).n o2 s2))
-            (sym (symbols_given-newest o2 s2 symbols x.given))
-            (subst (λ l. GivesSymbols (object_in (now start ms) f.profile o2) s2 l symbols)
-            (sym (map-same (block_given (Worked o2 s2 symbols ∷ x.given) o2 s2)
-            (block_given x.given o2 s2) (upto (setup_in (now start ms)).n) (λ n. refl))) g)))
+        worked_here : o2 ≡ f.id → s2 ≡ s → GivesSymbols (object_in old f.profile o2) s2
+            (blocks_given x.given (setup_in old).n o2 s2) symbols → Opened (setup_in old) f.profile f.id
+            (Worked o2 s2 symbols ∷ x.given) s
+        worked_here a b g = rw (
+          ← a,
+          ← b,
+          symbols_given-newest o2 s2 symbols x.given,
+          map-same (block_given (Worked o2 s2 symbols ∷ x.given) o2 s2) (block_given x.given o2 s2)
+              (upto (setup_in old).n) (λ n. refl),
+        ) g
 
     opened_step : Opened (setup_in m.state) f.profile f.id j.given s
-    opened_step =
-        subst (λ t. Opened t f.profile f.id j.given s) (sym same_setup) (elim (X.job k j h) [
-          | Job_is.kept r grown ↦ F.opened k j name f q o s r kind pinned early at_old
-          | Job_is.begun kd wish is k_is allowed rec ↦ absurd
-              (let e : j.place ≡ 0 = ap (λ (x : Job). x.place) is in omega arith)
-          | Job_is.plain x action runs next_is is_plain goes rec st ↦
-              by_gave x action runs next_is (sym goes.kind ∙ kind)
-              (sym goes.pinned ∙ pinned) goes.pinned goes.place goes.gave
-          | Job_is.drew x runs next_is none_ is rec ↦
-              by_quiet x WriteBody runs next_is (sym (ap (λ (y : Job). y.kind) is) ∙ kind)
-              (sym (ap (λ (y : Job). y.pinned) is) ∙ pinned) (ap (λ (y : Job). y.pinned) is)
-              (ap (λ (y : Job). y.place) is) tt (ap (λ (y : Job). y.given) is)
-          | Job_is.finished x a runs next_is flight mine is rec none_ ↦
-              by_quiet x SyncGate runs next_is (sym (ap (λ (y : Job). y.kind) is) ∙ kind)
-              (sym (ap (λ (y : Job). y.pinned) is) ∙ pinned) (ap (λ (y : Job). y.pinned) is)
-              (ap (λ (y : Job). y.place) is) tt (ap (λ (y : Job). y.given) is)
-        ])
+    opened_step = subst (λ t. Opened t f.profile f.id j.given s) (sym same_setup) (elim (X.job k j h) [
+      | Job_is.kept r grown ↦ F.opened k j name f q o s r kind pinned early at_old
+      | Job_is.begun kd wish is k_is allowed rec ↦ absurd
+          (let e : j.place ≡ 0 = ap (λ (x : Job). x.place) is in omega arith)
+      | Job_is.plain x action runs next_is is_plain goes rec st ↦
+          by_gave x action runs next_is (sym goes.kind ∙ kind)
+          (sym goes.pinned ∙ pinned) goes.pinned goes.place goes.gave
+      | Job_is.drew x runs next_is none_ is rec ↦ by_quiet x WriteBody runs next_is
+          (sym (ap (λ (y : Job). y.kind) is) ∙ kind) (sym (ap (λ (y : Job). y.pinned) is) ∙ pinned)
+          (ap (λ (y : Job). y.pinned) is) (ap (λ (y : Job). y.place) is) tt (ap (λ (y : Job). y.given) is)
+      | Job_is.finished x a runs next_is flight mine is rec none_ ↦ by_quiet x SyncGate runs next_is
+          (sym (ap (λ (y : Job). y.kind) is) ∙ kind) (sym (ap (λ (y : Job). y.pinned) is) ∙ pinned)
+          (ap (λ (y : Job). y.pinned) is) (ap (λ (y : Job). y.place) is) tt (ap (λ (y : Job). y.given) is)
+    ])
 
   step_facts : Facts start (m ∷ ms)
   step_facts = record { file = file_step; opened = opened_step }
@@ -308,8 +273,7 @@ facts limit start clean [] run = record {
   file = λ k j name h kind. absurd (found_none start.jobs k j clean.jobs h);
   opened = λ k j name f q o s h kind pinned early at. absurd (found_none start.jobs k j clean.jobs h);
 }
-facts limit start clean (m ∷ ms) run =
-    (let A = all limit start clean ms run.2 in
+facts limit start clean (m ∷ ms) run = (let A = all limit start clean ms run.2 in
     step_facts limit start m ms A (facts limit start clean ms run.2)
     (changes limit (length ms) (now start ms) m.event m.outcome m.state A.numbers.idle run.1))
 
@@ -332,10 +296,9 @@ given_back n (Answered i o r symbol ∷ more) = given_to-more n (entries_of n mo
 bare_block : (given : List Given) (object s j : ℕ) →
     block_given (bare given) object s j ≡ block_given given object s j
 bare_block [] object s j = refl
-bare_block (Worked o t symbols ∷ more) object s j = bare_block more object s j
 bare_block (Fetched i o t block ∷ more) object s j =
     ap (cond (((i == j) && (o == object)) && (t == s)) block) (bare_block more object s j)
-bare_block (Answered i o r symbol ∷ more) object s j = bare_block more object s j
+bare_block (_ ∷ more) object s j = bare_block more object s j
 
 -- the blocks that a report has of a get are those that the get was given
 pub heard_blocks : (job : Job) (name : List ℕ) (n object s : ℕ) → job.kind ≡ GetJob name →
@@ -352,42 +315,35 @@ got_by w job f bytes pinned h = subst (λ (p : List Pinned). GotBytes w job p by
 
 -- every get that ended with bytes gave what its fetches open to
 pub got_is_opened : GotIsOpened
-got_is_opened limit start m ms job name bytes clean run e =
-    (let r = event_end limit (length ms) (now start ms) m.event m.outcome m.state job (answer.Got bytes)
-    (λ x. x) e.event e.outcome e.runs run.1 in
+got_is_opened limit start m ms job name bytes clean run e = (let r = event_end limit (length ms)
+    (now start ms) m.event m.outcome m.state job (answer.Got bytes) (λ x. x) e.event e.outcome e.runs run.1 in
     let F = facts limit start clean ms run.2 in
     let f = F.file job.number job name e.runs e.kind in
-    let b : State = begin_of start ms job in
-    let p : Pinned = pinned_file b f.file in
+    let b = begin_of start ms job in
+    let p = pinned_file b f.file in
     let t = setup_same (now start ms) b f.setup in
-    let ends : GotBytes (now start ms) job job.pinned bytes =
-    subst (λ kd. Ends (now start ms) job kd (answer.Got bytes)) e.kind r.1 in
-    let end_at : slice_get
-    ((flat (setup_in (now start ms)) p.id
-    (upto (pinned_stripes (setup_in (now start ms)) p)) ++ []) ++ End ∷ []) job.place ≡ Some End =
-    ap (λ l. slice_get l job.place) (sym (get_actions (setup_in (now start ms)) job name p e.kind f.pinned))
-    ∙ (sym (get_next (now start ms) job name e.kind) ∙ r.0) in
     record {
       file = f.file;
       in_effect = f.in_effect;
       opens = record {
         symbols = λ s. symbols_given job.given f.file.id s;
-        given = λ s l.
-            (let at = worked_on (setup_in (now start ms)) p.id
+        given = λ s l. (let at = worked_on (setup_in (now start ms)) p.id
             (pinned_stripes (setup_in (now start ms)) p) 0 s (omega arith)
-            (subst (λ (u : Setup). s < 0 + pinned_stripes u p) (sym t)
-            (let z : s < 0 + pinned_stripes (setup_in b) p = omega (arith, l) in z)) in
+            (rw (← t) at (let z : s < 0 + pinned_stripes (setup_in b) p = omega (arith, l) in z)) in
             let early = before_end (setup_in (now start ms)) p.id
-            (pinned_stripes (setup_in (now start ms)) p) at.0 job.place (Work p.id s) at.1 end_at in
-            let o : Opened (setup_in (now start ms)) p.profile p.id job.given s =
+            (pinned_stripes (setup_in (now start ms)) p) at.0 job.place (Work p.id s) at.1
+            (ap (λ l. slice_get l job.place) (sym (get_actions (setup_in (now start ms)) job name p e.kind
+            f.pinned))
+            ∙ (sym (get_next (now start ms) job name e.kind) ∙ r.0)) in
+            let o =
             F.opened job.number job name p at.0 p.id s e.runs e.kind f.pinned early
             (ap (λ l. slice_get l at.0) (get_actions (setup_in (now start ms)) job name p e.kind f.pinned)
             ∙ from_flat (setup_in (now start ms)) p.id
             (upto (pinned_stripes (setup_in (now start ms)) p)) at.0 (Work p.id s) at.1) in
-            subst (λ l. GivesSymbols (file_object b f.file) s l (symbols_given job.given f.file.id s))
-            (sym (heard_blocks job name (setup_in b).n f.file.id s e.kind))
-            (subst (λ (u : Setup). Opened u p.profile p.id job.given s) t o));
-        cut = got_by (now start ms) job p bytes f.pinned ends
-            ∙ ap (λ (u : Setup). file_given u job.given p) t;
+            (rw (← (heard_blocks job name (setup_in b).n f.file.id s e.kind)) at
+            (subst (λ (u : Setup). Opened u p.profile p.id job.given s) t o)));
+        cut = got_by (now start ms) job p bytes f.pinned (subst (λ kd. Ends (now start ms) job kd
+            (answer.Got bytes)) e.kind r.1)
+            ∙ ap (λ u. file_given u job.given p) t;
       };
     })

@@ -1,6 +1,6 @@
 -- What the calls of a job gave it, and the parts of a run.
-use Rattle.machine_defs.proofs.Words.{◌≡◌, ◌&&◌, refl, ap, sym, ◌∙◌, inl, inr, arith, zero, suc, replicate, cases_Bool, and_from, eq-eqb, eqb-true, option_and_then, get-map_range, block_at, SeenBlock, Given, Worked, block_given, blocks_given, symbols_given, Entry, given_to, AreBytes}
-use Rattle.std.proofs.Common.{ℕ, ◌+◌, ◌<◌, ◌==◌, List, [], ◌∷◌, ◌++◌, length, Option}
+use Rattle.machine_defs.proofs.Words.{◌≡◌, ◌&&◌, refl, ap, sym, ◌∙◌, inl, inr, arith, zero, suc, replicate, cases_Bool, and_from, eq-eqb, eqb-true, option_and_then, get-map_range, block_at, Given, Worked, block_given, blocks_given, symbols_given, Entry, given_to, AreBytes}
+use Rattle.std.proofs.Common.{ℕ, ◌<◌, ◌==◌, List, [], ◌∷◌, ◌++◌, length}
 use Rattle.code_defs.specs.ServerCode.{differences}
 use Rattle.machine_defs.proofs.JobLists.{cond_true, cond_false}
 
@@ -29,9 +29,8 @@ symbols_given-newest o s symbols given = cond_true ((o == o) && (s == s)) symbol
 pub block_at-given : (given : List Given) (n object stripe j : ℕ) → j < n →
     block_at (blocks_given given n object stripe) j ≡ block_given given object stripe j
 block_at-given given n object stripe j l =
-    ap (λ (x : Option SeenBlock). option_and_then (λ (block : SeenBlock). block) x)
-    (get-map_range (block_given given object stripe) n 0 j l)
-    ∙ ap (block_given given object stripe) (let e : 0 + j ≡ j = omega arith in e)
+    ap (λ x. option_and_then (λ block. block) x) (get-map_range (block_given given object stripe) n 0 j l)
+    ∙ ap (block_given given object stripe) (omega arith)
 
 -- zeros are bytes
 pub zeros-bytes : (n : ℕ) → AreBytes (replicate n 0)

@@ -1,5 +1,5 @@
 -- How a step ends a job, by its kind.
-use Rattle.machine_defs.proofs.Words.{◌≡◌, refl, ap, sym, subst, ◌∙◌, eq-eqb, Rose, Provider, FailsToStore, Kind, PutJob, GetJob, DropJob, AuditJob, RepairJob, UpgradeJob, Job, job_of, Action, WriteBody, SyncBody, WriteGate, SyncGate, Store, Work, End, Answer, Event, Step, Outcome, Ended, State, Append, IsStart, ProviderCall, Moves, Ends, Acts, Steps, Happens, Moment, now, IsRun, IsBeginOfKind, NoneBegan, Begun}
+use Rattle.machine_defs.proofs.Words.{◌≡◌, refl, ap, sym, subst, ◌∙◌, eq-eqb, Rose, Provider, FailsToStore, Kind, PutJob, GetJob, DropJob, AuditJob, RepairJob, UpgradeJob, Job, job_of, Action, WriteBody, SyncBody, WriteGate, SyncGate, Store, Work, End, Answer, Step, Outcome, Ended, State, Append, IsStart, ProviderCall, Moves, Ends, Acts, Steps, Happens, Moment, now, IsRun, IsBeginOfKind, NoneBegan, Begun}
 use Rattle.std.proofs.Common.{ℕ, ◌==◌, List, ◌∷◌, ◌++◌, length, Option, Some}
 use Rattle.machine_defs.specs.Answers as answer
 use Rattle.machine_defs.specs.States.{ended}
@@ -109,16 +109,14 @@ module _ (old new : State) where
 pub job_ends_so : (limit : ℕ) (start : State) (m : Moment) (ms : List Moment) (k : ℕ) (job : Job)
     (how : Answer) → IsStart start → IsRun limit start (m ∷ ms) → job_of (now start ms).jobs k ≡ Some job →
     m.event ≡ Step k → m.outcome ≡ Ended how → EndsSo (now start ms) m.state job.kind how
-job_ends_so limit start m ms k job how clean run runs event over =
-    (let w : State = now start ms in
-    let number : job.number ≡ k = number_of w.jobs k job runs in
+job_ends_so limit start m ms k job how clean run runs event over = (let w = now start ms in
+    let number = number_of w.jobs k job runs in
     by_end w job how m.state (EndsSo w m.state job.kind how) (ap (job_of w.jobs) number ∙ runs)
     (λ action next made. acts_so w m.state job action how (is_fair w job action next) made)
     (λ x at made. absurd
     (found_none w.jobs k job ((num.facts objects limit start clean ms run.2).idle.lone x at) runs))
     (subst (λ n. Steps w n w.is_open (Ended how) m.state) (sym number)
-    (subst (λ (x : Event). Happens limit (length ms) w x (Ended how) m.state) event
-    (subst (λ (o : Outcome). Happens limit (length ms) w m.event o m.state) over run.1))))
+    (rw event at (subst (λ (o : Outcome). Happens limit (length ms) w m.event o m.state) over run.1))))
 
 -- the same by the event that began it
 pub begun_ends_so : (limit : ℕ) (start : State) (between older : List Moment) (m b : Moment) (kind : Kind)
@@ -127,5 +125,4 @@ pub begun_ends_so : (limit : ℕ) (start : State) (between older : List Moment) 
     m.outcome ≡ Ended how → EndsSo (now start (between ++ b ∷ older)) m.state kind how
 begun_ends_so limit start between older m b kind k how clean run on begun none event over =
     (let f = ended_of_kind limit start between older m b kind k how clean run on begun none event over in
-    subst (λ kd. EndsSo (now start (between ++ b ∷ older)) m.state kd how) f.3
-    (job_ends_so limit start m (between ++ b ∷ older) k f.0 how clean run f.1 event over))
+    (rw f.3 at (job_ends_so limit start m (between ++ b ∷ older) k f.0 how clean run f.1 event over)))

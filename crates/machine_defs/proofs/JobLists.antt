@@ -28,12 +28,11 @@ number_of (x ∷ js) k j h = elim (cases_Bool (x.number == k)) [
 -- with a job in place of another: that job, or one of another number
 pub found_with : (js : List Job) (job : Job) (k : ℕ) (j : Job) → job_of (with_job js job) k ≡ Some j →
     ((k ≡ job.number) × (j ≡ job)) ⊎ ((k ≡ job.number → ⊥) × (job_of js k ≡ Some j))
-found_with [] job k j h = let e : None ≡ Some j = h in cc
+found_with [] job k j h = let e = h in cc
 found_with (x ∷ js) job k j h = elim (cases_Bool (x.number == job.number)) [
-  | inl t ↦ replaced t (ap (λ (l : List Job). job_of l k)
-      (sym (cond_true _ (job ∷ js) (x ∷ with_job js job) t)) ∙ h)
+  | inl t ↦ replaced t (ap (λ l. job_of l k) (sym (cond_true _ (job ∷ js) (x ∷ with_job js job) t)) ∙ h)
   | inr f ↦ kept f (found_with js job k j)
-      (ap (λ (l : List Job). job_of l k) (sym (cond_false _ (job ∷ js) (x ∷ with_job js job) f)) ∙ h)
+      (ap (λ l. job_of l k) (sym (cond_false _ (job ∷ js) (x ∷ with_job js job) f)) ∙ h)
 ]
   where
     replaced : (x.number == job.number) ≡ true → job_of (job ∷ js) k ≡ Some j →

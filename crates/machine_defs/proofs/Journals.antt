@@ -1,5 +1,5 @@
 -- The journal that a disk holds and the history have alike tables, and a put that runs is started in both.
-use Rattle.machine_defs.proofs.Words.{next_id, next_audit, ◌≡◌, suc, cond, refl, ap, ◌∙◌, Record, Setup, SetUp, PutStart, PutDone, Drop, AuditStart, AuditDone, RepairDone, PutDoneIn, Version, Resume, InEffect, RepairDue, setup_of, version_of, started_as, profile_in, with_put, without_file, files_of, due_of, exceeds}
+use Rattle.machine_defs.proofs.Words.{next_id, next_audit, ◌≡◌, suc, cond, refl, ap, ◌∙◌, Record, Setup, SetUp, PutStart, PutDone, Drop, AuditStart, AuditDone, RepairDone, PutDoneIn, Version, setup_of, version_of, started_as, profile_in, with_put, without_file, files_of, due_of, exceeds}
 use Rattle.std.proofs.Common.{ℕ, List, ◌∷◌, Some}
 use Rattle.record_defs.specs.Acceptance.{AreAccepted}
 use Rattle.record_defs.specs.Packed.{AreAlike, packed}
@@ -36,8 +36,7 @@ alike-more rs qs (AuditDone number undecided counts) appended starts a =
     alike-by a.setup a.version a.id a.audit a.files
     (ap (λ o. cond (exceeds o counts) (Some (record { number = number; counts = counts })) (due_of rs)) a.setup
     ∙ ap (λ d. cond (exceeds (setup_of qs) counts) (Some (record { number = number; counts = counts })) d) a.due)
-alike-more rs qs (RepairDone number) appended starts a =
-    alike-by a.setup a.version a.id a.audit a.files refl
+alike-more rs qs (RepairDone number) appended starts a = alike-by a.setup a.version a.id a.audit a.files refl
 alike-more rs qs (PutDoneIn id size profile) appended starts a = alike-by a.setup a.version a.id a.audit
     (ap (λ fs. with_put fs (started_as rs id) id size profile) a.files
     ∙ ap (λ o. with_put (files_of qs) o id size profile) (starts id refl)) a.due
@@ -45,9 +44,8 @@ alike-more rs qs Version appended starts a = alike-by a.setup refl a.id a.audit 
 alike-more rs qs r appended starts a = absurd appended
 
 alike-trans : (rs qs ps : List Record) → AreAlike rs qs → AreAlike qs ps → AreAlike rs ps
-alike-trans rs qs ps a b =
-    alike-by (a.setup ∙ b.setup) (a.version ∙ b.version) (a.id ∙ b.id) (a.audit ∙ b.audit) (a.files ∙ b.files)
-    (a.due ∙ b.due)
+alike-trans rs qs ps a b = alike-by (a.setup ∙ b.setup) (a.version ∙ b.version) (a.id ∙ b.id)
+    (a.audit ∙ b.audit) (a.files ∙ b.files) (a.due ∙ b.due)
 
 -- a packed journal is alike to the history that its journal was alike to
 pub packed-alike : (journal history : List Record) (s : Setup) → AreAccepted journal →

@@ -132,8 +132,7 @@ Runs_or_not w k = ((j : Job) × (job_of w.jobs k ≡ Some j)) ⊎ (lone_number w
 -- where a job runs, nothing runs alone
 beside_none : (w : State) (k n : ℕ) (j : Job) → IsLone w → job_of w.jobs k ≡ Some j →
     lone_number w ≡ Some n → ⊥
-beside_none w k n j lone runs h =
-    (let x = alone_of w.alone n h in found_none w.jobs k j (lone x.0 x.1) runs)
+beside_none w k n j lone runs h = (let x = alone_of w.alone n h in found_none w.jobs k j (lone x.0 x.1) runs)
 
 by_number : (w : State) (k : ℕ) → ((job_of w.jobs k ≡ None) → lone_number w ≡ Some k → ⊥) → Runs_or_not w k
 by_number w k other = go (job_of w.jobs k) refl
@@ -145,15 +144,13 @@ by_number w k other = go (job_of w.jobs k) refl
 -- where a job begins, nothing runs alone
 begins_lone : (limit moment : ℕ) (old : State) (e : Event) (r : Outcome) (new : State) (n : ℕ) →
     IsBeginFor (λ kind. Unit {0}) e → r ≡ Begun n → Happens limit moment old e r new → lone_number new ≡ None
-begins_lone limit moment old (Begin kind) r new n on is h =
-    by_begin kind None (subst (λ (o : Outcome). BeginsAt limit moment old kind None o new) is h)
+begins_lone limit moment old (Begin kind) r new n on is h = by_begin kind None (rw is at h)
   where
     by_begin : (kind : Kind) (profile : Option ℕ) → BeginsAt limit moment old kind profile (Begun n) new →
         lone_number new ≡ None
     by_begin kind profile g = ap lone_number g.3
         ∙ ap (option_map number_alone) (none_lone limit old kind profile g.1)
-begins_lone limit moment old (BeginAt profile name bytes) r new n on is h =
-    by_begin (subst (λ (o : Outcome). BeginsAt limit moment old (PutJob name bytes) (Some profile) o new) is h)
+begins_lone limit moment old (BeginAt profile name bytes) r new n on is h = by_begin (rw is at h)
   where
     by_begin : BeginsAt limit moment old (PutJob name bytes) (Some profile) (Begun n) new →
         lone_number new ≡ None

@@ -1,5 +1,5 @@
 -- Where the next action of a job stands in its list.
-use Rattle.machine_defs.proofs.Words.{◌≡◌, refl, sym, ◌∙◌, inl, inr, slice_get, cases_Bool, Setup, Kind, PutJob, GetJob, DropJob, AuditJob, RepairJob, UpgradeJob, Job, advanced, Action, End, actions_by, actions_of, State, setup_in, next_action, is_idle_drop}
+use Rattle.machine_defs.proofs.Words.{◌≡◌, refl, sym, ◌∙◌, inl, inr, slice_get, cases_Bool, Setup, Kind, Job, advanced, Action, End, actions_by, actions_of, State, setup_in, next_action, is_idle_drop}
 use Rattle.std.proofs.Common.{Some}
 use Rattle.machine_defs.proofs.JobLists.{cond_true, cond_false}
 
@@ -17,5 +17,4 @@ next_stands w job action h n = elim (cases_Bool (is_idle_drop w job job.kind)) [
 -- a job's list is the same after one more action
 pub actions_by-advanced : (s : Setup) (x : Job) (kind : Kind) →
     actions_by s (advanced x) kind ≡ actions_by s x kind
-actions_by-advanced s x (PutJob name bytes) = refl
-actions_by-advanced s x kind = refl
+actions_by-advanced s x _ = refl

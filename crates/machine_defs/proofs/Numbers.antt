@@ -1,8 +1,8 @@
 -- Object numbers and audit numbers: each is drawn once, and what uses it is the job that drew it.
-use Rattle.machine_defs.proofs.Words.{◌≡◌, suc, ◌≤◌, false, cond, ◌⊎◌, refl, ap, sym, subst, ◌∙◌, inl, inr, arith, slice_get, nat_lt, cases_Bool, cases_eq, cases_lt, ltb-true, lt-ltb, Record, SetUp, PutStart, PutDone, Drop, AuditStart, AuditDone, RepairDone, PutDoneIn, Version, Resume, InEffect, RepairDue, next_id, next_audit, Kind, PutJob, GetJob, DropJob, AuditJob, RepairJob, UpgradeJob, Job, job_of, Action, WriteBody, SyncGate, End, actions_by, actions_of, State, Append, IsStart, setup_in, Writes, is_first_append, subject_drawn, next_action, is_idle_drop, Moment, now, IsRun}
+use Rattle.machine_defs.proofs.Words.{◌≡◌, suc, ◌≤◌, false, cond, ◌⊎◌, refl, ap, sym, subst, ◌∙◌, inl, inr, arith, slice_get, nat_lt, cases_Bool, cases_eq, cases_lt, ltb-true, lt-ltb, Record, SetUp, PutStart, AuditStart, Resume, InEffect, RepairDue, next_id, next_audit, Kind, PutJob, AuditJob, Job, job_of, Action, WriteBody, SyncGate, End, actions_by, actions_of, State, Append, IsStart, setup_in, Writes, is_first_append, subject_drawn, next_action, is_idle_drop, Moment, now, IsRun}
 use Rattle.std.proofs.Common.{ℕ, ◌+◌, ◌<◌, true, List, [], ◌∷◌, length, Option, Some, None}
 use Rattle.machine_defs.proofs.JobLists.{cond_true, cond_false, same_value, found_none}
-use Rattle.machine_defs.proofs.Changes.{IsPlain, Job_is, Append_is, Records_is, IsQuietState, Changes}
+use Rattle.machine_defs.proofs.Changes.{Job_is, Append_is, Records_is, IsQuietState, Changes}
 use Rattle.machine_defs.proofs.Written.{IsAppended, IsWritten, written_on}
 use Rattle.machine_defs.proofs.Events.{changes}
 
@@ -159,51 +159,51 @@ pub data Numbered (series : Series) (old new : State) (k : ℕ) (j : Job) : Type
 
 module _ (series : Series) (limit : ℕ) (start : State) (m : Moment) (ms : List Moment)
     (F : Facts series start ms) (X : Changes limit (length ms) (now start ms) m.event m.outcome m.state) where
+  abbrev old : State
+  old = now start ms
+
   abbrev before_state : State
   before_state = now start ms
 
-  grows : next series (now start ms).records ≤ next series m.state.records
-  grows = next_of_records series (now start ms) m.state F.written X.records
+  grows : next series old.records ≤ next series m.state.records
+  grows = next_of_records series old m.state F.written X.records
 
   draws_back : (i j : Job) → j.kind ≡ i.kind → Draws series j.kind → Draws series i.kind
   draws_back i j is d = subst (Draws series) is d
 
   numbered : (k : ℕ) (j : Job) → job_of m.state.jobs k ≡ Some j → HasNumber series j →
-      Numbered series (now start ms) m.state k j
+      Numbered series old m.state k j
   numbered k j h has = elim (X.job k j h) [
     | Job_is.kept r grown ↦ Numbered.was j r has refl refl
     | Job_is.begun kind profile is k_is none rec ↦ absurd
-        (let e : j.place ≡ 0 = ap (λ (x : Job). x.place) is in let l = has.1 in omega arith)
+        (let e : j.place ≡ 0 = ap (λ x. x.place) is in let l = has.1 in omega arith)
     | Job_is.plain i action runs next_is is_plain goes rec stores_it ↦ elim (cases_eq i.place 3) [
-      | inl three ↦ absurd (subst IsPlain
-          (same_value _ action SyncGate next_is
-          (at_three series (now start ms) i (draws_back i j goes.kind has.0) three)) is_plain)
+      | inl three ↦ absurd (rw (same_value _ action SyncGate next_is
+          (at_three series old i (draws_back i j goes.kind has.0) three)) at is_plain)
       | inr other ↦ Numbered.was i runs
           (draws_back i j goes.kind has.0, (let e = goes.place in let l = has.1 in omega arith))
           (sym goes.subject) (sym goes.begun)
     ]
     | Job_is.drew i runs next_is none is rec ↦
-        let d : Draws series i.kind = draws_back i j (ap (λ (x : Job). x.kind) is) has.0 in
-        let place : j.place ≡ i.place + 1 = ap (λ (x : Job). x.place) is in
+        let d : Draws series i.kind = draws_back i j (ap (λ x. x.kind) is) has.0 in
+        let place : j.place ≡ i.place + 1 = ap (λ x. x.place) is in
         elim (cases_eq i.place 3) [
           | inl three ↦ absurd (let e : WriteBody ≡ SyncGate =
-              same_value _ WriteBody SyncGate next_is (at_three series (now start ms) i d three) in cc)
+              same_value _ WriteBody SyncGate next_is (at_three series old i d three) in cc)
           | inr other ↦ (let l : 4 ≤ i.place = (let g = has.1 in omega arith) in
               Numbered.was i runs (d, l)
-              (sym (ap (λ (x : Job). x.subject) is ∙ drawn_later (now start ms) i i.kind (first_above i l)))
-              (sym (ap (λ (x : Job). x.begun) is)))
+              (sym (ap (λ x. x.subject) is ∙ drawn_later old i i.kind (first_above i l)))
+              (sym (ap (λ x. x.begun) is)))
         ]
     | Job_is.finished i a runs next_is flight mine is rec none ↦
-        let d : Draws series i.kind = draws_back i j (ap (λ (x : Job). x.kind) is) has.0 in
-        let place : j.place ≡ i.place + 1 = ap (λ (x : Job). x.place) is in
+        let d : Draws series i.kind = draws_back i j (ap (λ x. x.kind) is) has.0 in
+        let place : j.place ≡ i.place + 1 = ap (λ x. x.place) is in
         elim (cases_lt i.place 4) [
-          | inl first ↦ (let f =
-              F.fits a i flight (subst (λ n. job_of (now start ms).jobs n ≡ Some i) (sym mine) runs) d
-              first in
-              Numbered.fresh a flight mine (ap (λ (x : Job). x.subject) is ∙ f.0)
-              (ap (next series) rec ∙ f.1 (now start ms).records))
-          | inr later ↦ Numbered.was i runs (d, later) (sym (ap (λ (x : Job). x.subject) is))
-              (sym (ap (λ (x : Job). x.begun) is))
+          | inl first ↦ (let f = F.fits a i flight (rw (← mine) at runs) d first in
+              Numbered.fresh a flight mine (ap (λ x. x.subject) is ∙ f.0)
+              (ap (next series) rec ∙ f.1 old.records))
+          | inr later ↦ Numbered.was i runs (d, later) (sym (ap (λ x. x.subject) is))
+              (sym (ap (λ x. x.begun) is))
         ]
   ]
 
@@ -219,14 +219,12 @@ module _ (series : Series) (limit : ℕ) (start : State) (m : Moment) (ms : List
   apart_step k l i j hi hj ni nj same = elim (numbered k i hi ni) [
     | Numbered.was i2 ri had_i si bi ↦ elim (numbered l j hj nj) [
       | Numbered.was j2 rj had_j sj bj ↦ F.apart k l i2 j2 ri rj had_i had_j (si ∙ (same ∙ sym sj))
-      | Numbered.fresh b flight_b mine_b subject_b raised_b ↦
-          absurd (let z = F.below k i2 ri had_i in omega arith)
+      | Numbered.fresh b flight_b mine_b subject_b raised_b ↦ absurd (omega (arith, F.below k i2 ri had_i))
     ]
     | Numbered.fresh a flight mine subject raised ↦ elim (numbered l j hj nj) [
-      | Numbered.was j2 rj had_j sj bj ↦ absurd (let z = F.below l j2 rj had_j in omega arith)
-      | Numbered.fresh b flight_b mine_b subject_b raised_b ↦
-          (let e : a ≡ b = same_value _ a b flight flight_b in sym mine
-          ∙ (ap (λ (x : Append). x.job) e ∙ mine_b))
+      | Numbered.was j2 rj had_j sj bj ↦ absurd (omega (arith, F.below l j2 rj had_j))
+      | Numbered.fresh b flight_b mine_b subject_b raised_b ↦ (sym mine
+          ∙ (ap (λ x. x.job) (same_value _ a b flight flight_b) ∙ mine_b))
     ]
   ]
 
@@ -234,40 +232,37 @@ module _ (series : Series) (limit : ℕ) (start : State) (m : Moment) (ms : List
       Draws series j.kind → j.place < 4 → (j.subject ≡ next series m.state.records) × Raises series a.entry
   fits_step a j h hj d small = elim (X.append a h) [
     | Append_is.kept b flight job_is entry rec ↦ elim (X.job a.job j hj) [
-      | Job_is.kept r grown ↦ carried b entry rec j refl
-          (F.fits b j flight (subst (λ n. job_of (now start ms).jobs n ≡ Some j) job_is r) d small)
+      | Job_is.kept r grown ↦ carried b entry rec j refl (F.fits b j flight (rw job_is at r) d small)
       | Job_is.begun kind profile is k_is none rec2 ↦ absurd (let l = F.holder b flight in omega arith)
       | Job_is.plain i action runs next_is is_plain goes rec2 stores_it ↦ carried b entry rec i goes.subject
-          (F.fits b i flight (subst (λ n. job_of (now start ms).jobs n ≡ Some i) job_is runs)
+          (F.fits b i flight (rw job_is at runs)
           (draws_back i j goes.kind d) (let e = goes.place in omega arith))
       | Job_is.drew i runs next_is none is rec2 ↦ absurd (let e : None ≡ Some b = sym none ∙ flight in cc)
       | Job_is.finished i c runs next_is flight_c mine is rec2 none ↦
           absurd (let e : None ≡ Some a = sym none ∙ h in cc)
     ]
     | Append_is.drew i runs next_is mine writes found rec ↦
-        let is = same_value _ j _ (subst (λ n. job_of m.state.jobs n ≡ Some j) mine hj) found in
-        let di : Draws series i.kind = draws_back i j (ap (λ (x : Job). x.kind) is) d in
-        let place : j.place ≡ i.place + 1 = ap (λ (x : Job). x.place) is in
+        let is = same_value _ j _ (rw mine at hj) found in
+        let di : Draws series i.kind = draws_back i j (ap (λ x. x.kind) is) d in
+        let place : j.place ≡ i.place + 1 = ap (λ x. x.place) is in
         let first = first_below i (omega arith) in (
-          ap (λ (x : Job). x.subject) is
-              ∙ (drawn_first series (now start ms) i i.kind di first ∙ sym (ap (next series) rec)),
-          writes_first series (now start ms) i i.kind a.entry di first writes,
+          ap (λ x. x.subject) is ∙ (drawn_first series old i i.kind di first ∙ sym (ap (next series) rec)),
+          writes_first series old i i.kind a.entry di first writes,
         )
   ]
     where
-      carried : (b : Append) → a.entry ≡ b.entry → m.state.records ≡ (now start ms).records → (i : Job) →
-          j.subject ≡ i.subject → (i.subject ≡ next series (now start ms).records) × Raises series b.entry →
+      carried : (b : Append) → a.entry ≡ b.entry → m.state.records ≡ old.records → (i : Job) →
+          j.subject ≡ i.subject → (i.subject ≡ next series old.records) × Raises series b.entry →
           (j.subject ≡ next series m.state.records) × Raises series a.entry
       carried b entry rec i subject f =
           (subject ∙ (f.0 ∙ sym (ap (next series) rec)), raises_start series a.entry b.entry entry f.1)
 
   holder_step : (a : Append) → m.state.append ≡ Some a → a.job < m.state.next_job
   holder_step a h = elim X.numbers [
-    | inl p ↦ absurd (let e : None ≡ Some a = sym p.1 ∙ h in cc)
+    | inl p ↦ absurd (cc (sym p.1 ∙ h))
     | inr l ↦ elim (X.append a h) [
-      | Append_is.kept b flight job_is entry rec ↦ (let z = F.holder b flight in omega arith)
-      | Append_is.drew i runs next_is mine writes found rec ↦
-          (let z = F.jobs_below i.number i runs in omega arith)
+      | Append_is.kept b flight job_is entry rec ↦ (omega (arith, F.holder b flight))
+      | Append_is.drew i runs next_is mine writes found rec ↦ (omega (arith, F.jobs_below i.number i runs))
     ]
   ]
 
@@ -291,11 +286,10 @@ module _ (series : Series) (limit : ℕ) (start : State) (m : Moment) (ms : List
   used_mine_step : (b n k : ℕ) (j : Job) → HasUsed series start (m ∷ ms) b n →
       job_of m.state.jobs k ≡ Some j → HasNumber series j → j.subject ≡ n → b ≡ j.begun
   used_mine_step b n k j (inl u) h has same = elim (numbered k j h has) [
-    | Numbered.was i runs had subject begun ↦
-        (let number : u.job.number ≡ k = F.apart u.job.number k u.job i u.runs runs u.has had
-        (u.number_is ∙ (sym same ∙ sym subject)) in
+    | Numbered.was i runs had subject begun ↦ (let number : u.job.number ≡ k = F.apart u.job.number k u.job i
+        u.runs runs u.has had (u.number_is ∙ (sym same ∙ sym subject)) in
         let is : u.job ≡ i = same_value _ u.job i
-        (subst (λ x. job_of (now start ms).jobs x ≡ Some u.job) number u.runs) runs in
+        (subst (λ x. job_of old.jobs x ≡ Some u.job) number u.runs) runs in
         sym u.begun_is ∙ (ap (λ (x : Job). x.begun) is ∙ begun))
     | Numbered.fresh a flight mine subject raised ↦
         absurd (let l = F.below u.job.number u.job u.runs u.has in let e = u.number_is in omega arith)
@@ -306,13 +300,10 @@ module _ (series : Series) (limit : ℕ) (start : State) (m : Moment) (ms : List
   ]
 
   used_once_step : (b c n : ℕ) → HasUsed series start (m ∷ ms) b n → HasUsed series start (m ∷ ms) c n → b ≡ c
-  used_once_step b c n (inl u) (inl v) =
-      (let number : u.job.number ≡ v.job.number =
-      F.apart u.job.number v.job.number u.job v.job u.runs v.runs u.has v.has
-      (u.number_is ∙ sym v.number_is) in
-      let is : u.job ≡ v.job = same_value _ u.job v.job
-      (subst (λ x. job_of (now start ms).jobs x ≡ Some u.job) number u.runs) v.runs in
-      sym u.begun_is ∙ (ap (λ (x : Job). x.begun) is ∙ v.begun_is))
+  used_once_step b c n (inl u) (inl v) = (let is = same_value _ u.job v.job
+      (subst (λ x. job_of old.jobs x ≡ Some u.job) (F.apart u.job.number v.job.number u.job v.job u.runs
+      v.runs u.has v.has (u.number_is ∙ sym v.number_is)) u.runs) v.runs in
+      sym u.begun_is ∙ (ap (λ x. x.begun) is ∙ v.begun_is))
   used_once_step b c n (inl u) (inr v) =
       sym (F.used_mine c n u.job.number u.job v u.runs u.has u.number_is ∙ u.begun_is)
   used_once_step b c n (inr u) (inl v) =
@@ -328,7 +319,7 @@ module _ (series : Series) (limit : ℕ) (start : State) (m : Moment) (ms : List
     holder = holder_step;
     jobs_below = jobs_below_step;
     idle = record { idle = X.idle F.idle.idle; lone = X.lone F.idle.lone };
-    written = written_on limit (length ms) (now start ms) m.event m.outcome m.state X F.written;
+    written = written_on limit (length ms) old m.event m.outcome m.state X F.written;
     used_below = used_below_step;
     used_mine = used_mine_step;
     used_once = used_once_step;
@@ -339,16 +330,13 @@ start_facts series start clean = record {
   below = λ k j h has. absurd (found_none start.jobs k j clean.jobs h);
   apart = λ k l i j h g a b s. absurd (found_none start.jobs k i clean.jobs h);
   fits = λ a j h g d s. absurd (found_none start.jobs a.job j clean.jobs g);
-  holder = λ a h. absurd (let e : None ≡ Some a = sym clean.append ∙ h in cc);
+  holder = λ a h. absurd (cc (sym clean.append ∙ h));
   jobs_below = λ k j h. absurd (found_none start.jobs k j clean.jobs h);
   idle = record {
     idle = λ closed. (clean.jobs, clean.append);
-    lone = λ x h. absurd (let e : None ≡ Some x = sym clean.none_alone ∙ h in cc);
+    lone = λ x h. absurd (cc (sym clean.none_alone ∙ h));
   };
-  written = (
-    λ a h. absurd (let e : None ≡ Some a = sym clean.append ∙ h in cc),
-    λ d h. absurd (let e : None ≡ Some d = sym clean.doubt ∙ h in cc),
-  );
+  written = (λ a h. absurd (cc (sym clean.append ∙ h)), λ d h. absurd (cc (sym clean.doubt ∙ h)));
   used_below = λ b n u. absurd u;
   used_mine = λ b n k j u h has s. absurd u;
   used_once = λ b c n u v. absurd u;
@@ -358,7 +346,6 @@ start_facts series start clean = record {
 pub facts : (series : Series) (limit : ℕ) (start : State) → IsStart start → (ms : List Moment) →
     IsRun limit start ms → Facts series start ms
 facts series limit start clean [] run = start_facts series start clean
-facts series limit start clean (m ∷ ms) run =
-    (let F = facts series limit start clean ms run.2 in
+facts series limit start clean (m ∷ ms) run = (let F = facts series limit start clean ms run.2 in
     step_facts series limit start m ms F
     (changes limit (length ms) (now start ms) m.event m.outcome m.state F.idle run.1))

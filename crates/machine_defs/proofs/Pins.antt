@@ -1,5 +1,5 @@
 -- Files in effect, files that jobs work on, and objects that they take away.
-use Rattle.machine_defs.proofs.Words.{◌≡◌, ◌≤◌, Bool, false, ◌⊎◌, refl, ap, sym, subst, ◌∙◌, inl, inr, nat_lt, list_any, eq-eqb, cases_Bool, cases_lt, false≢true, Record, PutStart, Drop, AuditStart, AuditDone, RepairDone, Version, File, next_id, files_of, version_of, Kind, PutJob, GetJob, DropJob, AuditJob, RepairJob, UpgradeJob, Aim, ToPut, ToGet, ToDrop, ToAudit, ToRepair, ToUpgrade, aim_of, Pinned, Job, job_of, machine_pins, State, file_in, refusal_of_begin, pinned_file, pin_by, pin_all, pin_found, pinned_for, aims_of, sight_of, is_check, is_put_or_check, is_shut, are_jobs_in_the_way, Writes, is_first_append, is_pinned, removable, taken_out, done_record, In}
+use Rattle.machine_defs.proofs.Words.{◌≡◌, ◌≤◌, Bool, false, ◌⊎◌, refl, ap, sym, subst, ◌∙◌, inl, inr, nat_lt, list_any, eq-eqb, cases_Bool, cases_lt, false≢true, Record, PutStart, Drop, AuditStart, AuditDone, RepairDone, Version, File, next_id, files_of, version_of, Kind, PutJob, GetJob, DropJob, AuditJob, RepairJob, UpgradeJob, Aim, ToPut, aim_of, Pinned, Job, job_of, machine_pins, State, file_in, refusal_of_begin, pinned_file, pin_by, pin_all, pin_found, pinned_for, aims_of, sight_of, is_check, is_put_or_check, is_shut, are_jobs_in_the_way, Writes, is_first_append, is_pinned, removable, taken_out, done_record, In}
 use Rattle.std.proofs.Common.{ℕ, ◌<◌, ◌==◌, true, List, [], ◌∷◌, length, Option, Some, None}
 use Rattle.machine_defs.proofs.Done.{by_version}
 use Rattle.machine_defs.proofs.Refused.{not_busy, right_false}
@@ -14,10 +14,9 @@ in_pin : (p : Pinned) (ps : List Pinned) (f : Pinned) → In f (pin_by machine_p
 in_pin p [] f (inl e) = inl e
 in_pin p [] f (inr i) = absurd i
 in_pin p (q ∷ qs) f h = elim (cases_Bool (nat_lt p.id q.id)) [
-  | inl t ↦ here (subst (λ l. In f l)
-      (cond_true (nat_lt p.id q.id) (p ∷ q ∷ qs) (q ∷ pin_by machine_pins p qs) t) h)
+  | inl t ↦ here (rw (cond_true (nat_lt p.id q.id) (p ∷ q ∷ qs) (q ∷ pin_by machine_pins p qs) t) at h)
   | inr o ↦ later (in_pin p qs f)
-      (subst (λ l. In f l) (cond_false (nat_lt p.id q.id) (p ∷ q ∷ qs) (q ∷ pin_by machine_pins p qs) o) h)
+      (rw (cond_false (nat_lt p.id q.id) (p ∷ q ∷ qs) (q ∷ pin_by machine_pins p qs) o) at h)
 ]
   where
     here : In f (p ∷ q ∷ qs) → (f ≡ p) ⊎ In f (q ∷ qs)
@@ -47,8 +46,7 @@ in_all w (g ∷ gs) f h = elim (in_pin (pinned_file w g) (pin_all w gs) f h) [
 
 -- each pin of all files in effect stands for one in effect
 pub in_effect_all : (w : State) (f : Pinned) → In f (pin_all w (files_of w.records)) → Stands w f
-in_effect_all w f h =
-    (let r = in_all w (files_of w.records) f h in
+in_effect_all w f h = (let r = in_all w (files_of w.records) f h in
     record { name = r.0.name; file = r.0; in_effect = listed_file w.records r.0 r.1; is = r.2 })
 
 in_effect_one : (w : State) (name : List ℕ) (o : Option File) (f : Pinned) → file_in w name ≡ o →
@@ -80,22 +78,19 @@ any_pinned (p ∷ ps) id f (inr i) e =
 -- where no job passes a test, the job of a number does not
 pub any_job : (test : Job → Bool) (js : List Job) (k : ℕ) (j : Job) → job_of js k ≡ Some j →
     list_any test js ≡ false → test j ≡ false
-any_job test [] k j h none = (let e : None ≡ Some j = h in cc)
+any_job test [] k j h none = (cc h)
 any_job test (x ∷ js) k j h none = elim (cases_Bool (test x)) [
   | inl t ↦ absurd (false≢true (sym none ∙ (rw t refl)))
   | inr o ↦ elim (cases_Bool (x.number == k)) [
-    | inl t ↦ (let same : x ≡ j = same_value _ x j (cond_true _ (Some x) (job_of js k) t) h in
-        ap test (sym same) ∙ o)
-    | inr n ↦ any_job test js k j (sym (cond_false _ (Some x) (job_of js k) n) ∙ h)
-        (let e = rw o at none in e)
+    | inl t ↦ (ap test (sym (same_value _ x j (cond_true _ (Some x) (job_of js k) t) h)) ∙ o)
+    | inr n ↦ any_job test js k j (sym (cond_false _ (Some x) (job_of js k) n) ∙ h) (rw o at none)
   ]
 ]
 
 -- the aim of a running job, where no aim passes a test
 pub any_aim : (test : Aim → Bool) (js : List Job) (k : ℕ) (j : Job) → job_of js k ≡ Some j
     → list_any test (aims_of js) ≡ false → test (aim_of j.kind) ≡ false
-any_aim test js k j h none =
-    any_job (λ (x : Job). test (aim_of x.kind)) js k j h (sym (any-aims test js) ∙ none)
+any_aim test js k j h none = any_job (λ x. test (aim_of x.kind)) js k j h (sym (any-aims test js) ∙ none)
 
 -- no running job works on a file whose number is not pinned
 pub not_pinned : (w : State) (k : ℕ) (j : Job) (f : Pinned) (id : ℕ) → is_pinned w id ≡ false →
@@ -138,9 +133,8 @@ taken w job (PutJob n bytes) o h = elim (cases_lt job.place 4) [
   | inr l ↦ (
     n,
     (l, refl),
-    removable_is w job n (file_in w n) o refl
-        (subst (λ x. In o x) (cond_false (is_first_append job) [] (removable w (file_in w n))
-        (first_above job l)) h),
+    removable_is w job n (file_in w n) o refl (subst (λ x. In o x)
+        (cond_false (is_first_append job) [] (removable w (file_in w n)) (first_above job l)) h),
   )
 ]
 taken w job (DropJob n) o h = (n, refl, removable_is w job n (file_in w n) o refl h)
@@ -154,8 +148,7 @@ pub check_alone : (limit : ℕ) (w : State) (kind : Kind) (profile : Option ℕ)
     → (k : ℕ) (j : Job) → job_of w.jobs k ≡ Some j → is_check (aim_of j.kind) ≡ false
 check_alone limit w kind profile none check k j runs =
     by kind check (right_false (is_shut (sight_of w))
-    (are_jobs_in_the_way limit (aims_of w.jobs) (aim_of kind))
-    (not_busy limit w kind profile none))
+    (are_jobs_in_the_way limit (aims_of w.jobs) (aim_of kind)) (not_busy limit w kind profile none))
   where
     not_put : (aim : Aim) → is_put_or_check aim ≡ false → is_check aim ≡ false
     not_put (ToPut name size) h = refl
@@ -180,9 +173,6 @@ Wrote job RepairJob entry = (number : ℕ) × (entry ≡ RepairDone number)
 Wrote job UpgradeJob entry = entry ≡ Version
 Wrote job (GetJob name) entry = ⊥
 
-done_proper : (v id size profile : ℕ) (rs : List Record) → IsProper rs (done_record v id size profile)
-done_proper v id size profile rs = by_version v id size profile (IsProper rs) tt tt
-
 -- a put's start is written with the next number, and no append writes what only a packed journal has
 pub writes_proper : (w : State) (job : Job) (kind : Kind) (entry : Record) → Writes w job kind entry →
     IsProper w.records entry
@@ -193,7 +183,7 @@ writes_proper w job (PutJob name bytes) entry h = elim (cases_Bool (is_first_app
   | inr f ↦ subst (IsProper w.records)
       (sym (h ∙ cond_false (is_first_append job) (PutStart (next_id w.records) name)
       (done_record (version_of w.records) job.subject (length bytes) job.profile) f))
-      (done_proper (version_of w.records) job.subject (length bytes) job.profile w.records)
+      (by_version (version_of w.records) job.subject (length bytes) job.profile (IsProper w.records) tt tt)
 ]
 writes_proper w job (GetJob name) entry h = absurd h
 writes_proper w job AuditJob entry h = elim (cases_Bool (is_first_append job)) [

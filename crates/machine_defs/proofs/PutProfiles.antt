@@ -1,7 +1,6 @@
 -- While the journal has its first version, each put that runs has the profile of the setup.
-use Rattle.machine_defs.proofs.Words.{◌≡◌, ◌≤◌, false, Bool, refl, ap, sym, subst, ◌∙◌, inl, inr, arith, nat_lt, nat_le, not, cases_Bool, cases_eq, eq-eqb, false≢true, Record, Setup, SetUp, PutStart, PutDone, Drop, AuditStart, AuditDone, RepairDone, PutDoneIn, Version, Resume, InEffect, RepairDue, is_name, largest_file, all_profiles, setup_of, version_of, profile_in, next_id, PutJob, aim_of, Job, job_of, setup_or_none, State, Append, IsStart, setup_in, refusal_of_begin, chosen, sight_of, is_busy, Writes, done_record, is_first_append, Action, WriteBody, SyncGate, next_action, Moment, now, IsRun}
+use Rattle.machine_defs.proofs.Words.{◌≡◌, ◌≤◌, false, Bool, refl, ap, sym, subst, ◌∙◌, inl, inr, arith, nat_lt, nat_le, not, cases_Bool, cases_eq, eq-eqb, false≢true, Record, Setup, PutStart, Version, is_name, largest_file, all_profiles, setup_of, version_of, profile_in, next_id, PutJob, aim_of, Job, job_of, setup_or_none, State, Append, IsStart, setup_in, refusal_of_begin, chosen, sight_of, is_busy, Writes, done_record, is_first_append, Action, WriteBody, SyncGate, next_action, Moment, now, IsRun}
 use Rattle.std.proofs.Common.{ℕ, ◌+◌, ◌==◌, true, List, [], ◌∷◌, length, Option, Some, None}
-use Rattle.machine_defs.specs.Refusals as refusal
 use Rattle.machine_defs.proofs.JobLists.{number_of, cond_false, same_value, found_none}
 use Rattle.machine_defs.proofs.Changes.{IsPlain, Grown, Job_is, Append_is, Changes}
 use Rattle.machine_defs.proofs.Events.{changes}
@@ -37,17 +36,16 @@ none_named limit w name bytes (Some p) h first = absurd
 
     by : (a b c d e : Bool) → refusal_of_begin limit w (PutJob name bytes) (Some p) ≡ None → ⊥
     by a b c d e h = elim (cases_Bool w.is_barred) [
-      | inl t ↦ (let g = rw t at h in let f : Some refusal.MustReopen ≡ None = g in cc)
+      | inl t ↦ (let g = rw t at h in cc g)
       | inr o1 ↦ elim (cases_Bool (is_busy limit (sight_of w) (aim_of (PutJob name bytes)))) [
-        | inl t ↦ (let g = rw (o1, t) at h in let f : Some refusal.Busy ≡ None = g in cc)
+        | inl t ↦ (let g = rw (o1, t) at h in cc g)
         | inr o2 ↦ elim (cases_Bool (is_name name)) [
-          | inr t ↦ (let g = rw (o1, o2, t) at h in let f : Some refusal.BadName ≡ None = g in cc)
+          | inr t ↦ (let g = rw (o1, o2, t) at h in cc g)
           | inl o3 ↦ elim (cases_Bool (nat_le all_profiles p)) [
-            | inl t ↦ (let g = rw (o1, o2, o3, t) at h in let f : Some refusal.BadProfile ≡ None = g in cc)
+            | inl t ↦ (let g = rw (o1, o2, o3, t) at h in cc g)
             | inr o4 ↦ elim (cases_Bool (nat_lt largest_file (length bytes))) [
-              | inl t ↦ (let g = rw (o1, o2, o3, o4, t) at h in let f : Some refusal.TooLong ≡ None = g in cc)
-              | inr o5 ↦ (let g = rw (o1, o2, o3, o4, o5, one) at h in let f : Some refusal.OldVersion
-                  ≡ None = g in cc)
+              | inl t ↦ (let g = rw (o1, o2, o3, o4, t) at h in cc g)
+              | inr o5 ↦ (let g = rw (o1, o2, o3, o4, o5, one) at h in cc g)
             ]
           ]
         ]
@@ -81,8 +79,11 @@ pub record Facts (start : State) (ms : List Moment) : Type 0 where
 module _ (limit : ℕ) (start : State) (m : Moment) (ms : List Moment) (N : num.Facts objects start ms)
     (P : pin.Facts start ms) (F : Facts start ms)
     (X : Changes limit (length ms) (now start ms) m.event m.outcome m.state) where
-  same_first : m.state.records ≡ (now start ms).records → (version_of m.state.records == 2) ≡ false →
-      (version_of (now start ms).records == 2) ≡ false
+  abbrev old : State
+  old = now start ms
+
+  same_first : m.state.records ≡ old.records → (version_of m.state.records == 2) ≡ false →
+      (version_of old.records == 2) ≡ false
   same_first rec first = ap (λ rs. version_of rs == 2) (sym rec) ∙ first
 
   plain_step : (k : ℕ) (j : Job) (name bytes : List ℕ) → job_of m.state.jobs k ≡ Some j →
@@ -93,30 +94,24 @@ module _ (limit : ℕ) (start : State) (m : Moment) (ms : List Moment) (N : num.
         ∙ ap (λ rs. profile_in (setup_of rs)) (sym rec)
     | Job_is.kept r (Grown.by_other x a runs next_is flight mine other rec) ↦
         F.plain k j name bytes r kind
-        (version_less a.entry (now start ms).records (ap (λ rs. version_of rs == 2) (sym rec) ∙ first))
+        (version_less a.entry old.records (ap (λ rs. version_of rs == 2) (sym rec) ∙ first))
         ∙ ap profile_in (sym (setup_one limit start m ms N P X a x flight runs mine rec))
-    | Job_is.begun kd wish is k_is allowed rec ↦
-        (let kind_is : kd ≡ PutJob name bytes = sym (ap (λ (x : Job). x.kind) is) ∙ kind in
-        let none = none_named limit (now start ms) name bytes wish
-        (subst (λ x. refusal_of_begin limit (now start ms) x wish ≡ None) kind_is allowed)
-        (same_first rec first) in
-        ap (λ (x : Job). x.profile) is
-        ∙ (ap (chosen (setup_in (now start ms))) none
-        ∙ (setup_profile (now start ms) ∙ ap (λ rs. profile_in (setup_of rs)) (sym rec))))
+    | Job_is.begun kd wish is k_is allowed rec ↦ (let kind_is = sym (ap (λ x. x.kind) is) ∙ kind in
+        let none = none_named limit old name bytes wish (rw kind_is at allowed) (same_first rec first) in
+        ap (λ x. x.profile) is ∙ (ap (chosen (setup_in old)) none
+        ∙ (setup_profile old ∙ ap (λ rs. profile_in (setup_of rs)) (sym rec))))
     | Job_is.plain x action runs next_is is_plain goes rec st ↦
         goes.profile ∙ (F.plain k x name bytes runs (sym goes.kind ∙ kind) (same_first rec first)
         ∙ ap (λ rs. profile_in (setup_of rs)) (sym rec))
-    | Job_is.drew x runs next_is none_ is rec ↦
-        ap (λ (y : Job). y.profile) is
-        ∙ (F.plain k x name bytes runs (sym (ap (λ (y : Job). y.kind) is) ∙ kind) (same_first rec first)
+    | Job_is.drew x runs next_is none_ is rec ↦ ap (λ y. y.profile) is
+        ∙ (F.plain k x name bytes runs (sym (ap (λ y. y.kind) is) ∙ kind) (same_first rec first)
         ∙ ap (λ rs. profile_in (setup_of rs)) (sym rec))
-    | Job_is.finished x a runs next_is flight mine is rec none_ ↦
-        (let number : x.number ≡ k = number_of (now start ms).jobs k x runs in
-        ap (λ (y : Job). y.profile) is
-        ∙ (F.plain k x name bytes runs (sym (ap (λ (y : Job). y.kind) is) ∙ kind)
-        (version_less a.entry (now start ms).records (ap (λ rs. version_of rs == 2) (sym rec) ∙ first))
+    | Job_is.finished x a runs next_is flight mine is rec none_ ↦ (let number = number_of old.jobs k x runs in
+        ap (λ y. y.profile) is
+        ∙ (F.plain k x name bytes runs (sym (ap (λ y. y.kind) is) ∙ kind)
+        (version_less a.entry old.records (ap (λ rs. version_of rs == 2) (sym rec) ∙ first))
         ∙ ap profile_in (sym (setup_one limit start m ms N P X a x flight
-        (subst (λ n. job_of (now start ms).jobs n ≡ Some x) (sym number) runs) (mine ∙ sym number) rec))))
+        (rw (← number) at runs) (mine ∙ sym number) rec))))
   ]
 
   ended_step : (a : Append) (j : Job) (name bytes : List ℕ) → m.state.append ≡ Some a →
@@ -124,14 +119,11 @@ module _ (limit : ℕ) (start : State) (m : Moment) (ms : List Moment) (N : num.
       Ended m.state.records j bytes a.entry
   ended_step a j name bytes h hj kind late = elim (X.append a h) [
     | Append_is.kept b flight job_is entry rec ↦ elim (X.job a.job j hj) [
-      | Job_is.kept r grown ↦
-          carried b entry rec j
-          (F.ended b j name bytes flight (subst (λ n. job_of (now start ms).jobs n ≡ Some j) job_is r) kind
-          late) refl refl
+      | Job_is.kept r grown ↦ carried b entry rec j (F.ended b j name bytes flight
+          (subst (λ n. job_of old.jobs n ≡ Some j) job_is r) kind late) refl refl
       | Job_is.begun kd wish is k_is none_ rec2 ↦ absurd (let l = N.holder b flight in omega arith)
-      | Job_is.plain x action runs next_is is_plain goes rec2 st ↦
-          carried b entry rec x
-          (F.ended b x name bytes flight (subst (λ n. job_of (now start ms).jobs n ≡ Some x) job_is runs)
+      | Job_is.plain x action runs next_is is_plain goes rec2 st ↦ carried b entry rec x
+          (F.ended b x name bytes flight (subst (λ n. job_of old.jobs n ≡ Some x) job_is runs)
           (sym goes.kind ∙ kind)
           (later x action next_is (sym goes.kind ∙ kind) is_plain (omega (arith, goes.place, late))))
           goes.subject goes.profile
@@ -146,30 +138,28 @@ module _ (limit : ℕ) (start : State) (m : Moment) (ms : List Moment) (N : num.
         let l : 4 ≤ x.place = (elim (cases_eq x.place 3) [
           | inl e ↦ absurd (let z : WriteBody ≡ SyncGate =
               same_value _ WriteBody SyncGate next_is
-              (at_three objects (now start ms) x (subst (Draws objects) (sym kx) tt) e) in cc)
+              (at_three objects old x (subst (Draws objects) (sym kx) tt) e) in cc)
           | inr n ↦ omega arith
         ]) in
-        let w : Writes (now start ms) x (PutJob name bytes) a.entry =
-        subst (λ kd. Writes (now start ms) x kd a.entry) kx writes in
+        let w : Writes old x (PutJob name bytes) a.entry =
+        subst (λ kd. Writes old x kd a.entry) kx writes in
         drawn_now x name bytes a.entry rec (ap (λ (y : Job). y.subject) is
-        ∙ drawn_later (now start ms) x x.kind (first_above x l)) (ap (λ (y : Job). y.profile) is)
-        (w ∙ cond_false (is_first_append x) (PutStart (next_id (now start ms).records) name)
-        (done_record (version_of (now start ms).records) x.subject (length bytes) x.profile)
-        (first_above x l))
+        ∙ drawn_later old x x.kind (first_above x l)) (ap (λ (y : Job). y.profile) is)
+        (w ∙ cond_false (is_first_append x) (PutStart (next_id old.records) name)
+        (done_record (version_of old.records) x.subject (length bytes) x.profile) (first_above x l))
         (λ first. F.plain x.number x name bytes runs kx first))
   ]
     where
-      later : (x : Job) (action : Action) → next_action (now start ms) x ≡ Some action →
+      later : (x : Job) (action : Action) → next_action old x ≡ Some action →
           x.kind ≡ PutJob name bytes → IsPlain action → 4 ≤ x.place + 1 → 4 ≤ x.place
       later x action next_is kx is_plain l = elim (cases_eq x.place 3) [
-        | inl e ↦ absurd (subst IsPlain
-            (same_value _ action SyncGate next_is
-            (at_three objects (now start ms) x (subst (Draws objects) (sym kx) tt) e)) is_plain)
+        | inl e ↦ absurd (subst IsPlain (same_value _ action SyncGate next_is
+            (at_three objects old x (subst (Draws objects) (sym kx) tt) e)) is_plain)
         | inr n ↦ omega arith
       ]
 
-      carried : (b : Append) → a.entry ≡ b.entry → m.state.records ≡ (now start ms).records → (x : Job) →
-          Ended (now start ms).records x bytes b.entry → j.subject ≡ x.subject → j.profile ≡ x.profile →
+      carried : (b : Append) → a.entry ≡ b.entry → m.state.records ≡ old.records → (x : Job) →
+          Ended old.records x bytes b.entry → j.subject ≡ x.subject → j.profile ≡ x.profile →
           Ended m.state.records j bytes a.entry
       carried b entry rec x e subject profile = record {
         version = e.version;
@@ -179,16 +169,15 @@ module _ (limit : ℕ) (start : State) (m : Moment) (ms : List Moment) (N : num.
         profiled = λ first. profile ∙ (e.profiled first ∙ ap (λ rs. profile_in (setup_of rs)) (sym rec));
       }
 
-      drawn_now : (x : Job) (n b : List ℕ) (entry : Record) → m.state.records ≡ (now start ms).records →
+      drawn_now : (x : Job) (n b : List ℕ) (entry : Record) → m.state.records ≡ old.records →
           j.subject ≡ x.subject → j.profile ≡ x.profile →
-          entry ≡ done_record (version_of (now start ms).records) x.subject (length b) x.profile →
-          ((version_of (now start ms).records == 2) ≡ false →
-          x.profile ≡ profile_in (setup_of (now start ms).records)) → Ended m.state.records j b entry
+          entry ≡ done_record (version_of old.records) x.subject (length b) x.profile →
+          ((version_of old.records == 2) ≡ false →
+          x.profile ≡ profile_in (setup_of old.records)) → Ended m.state.records j b entry
       drawn_now x n b entry rec subject profile is plain = record {
-        version = version_of (now start ms).records;
-        entry_is = is ∙ (ap (λ s. done_record (version_of (now start ms).records) s (length b) x.profile)
-            (sym subject) ∙ ap (λ p. done_record (version_of (now start ms).records) j.subject (length b) p)
-            (sym profile));
+        version = version_of old.records;
+        entry_is = is ∙ (ap (λ s. done_record (version_of old.records) s (length b) x.profile) (sym subject) ∙
+            ap (λ p. done_record (version_of old.records) j.subject (length b) p) (sym profile));
         profiled = λ first. profile ∙ (plain first ∙ ap (λ rs. profile_in (setup_of rs)) (sym rec));
       }
 
@@ -203,7 +192,6 @@ facts limit start clean [] run = record {
   plain = λ k j name bytes h kind first. absurd (found_none start.jobs k j clean.jobs h);
   ended = λ a j name bytes h hj kind late. absurd (found_none start.jobs a.job j clean.jobs hj);
 }
-facts limit start clean (m ∷ ms) run =
-    (let A = all limit start clean ms run.2 in
+facts limit start clean (m ∷ ms) run = (let A = all limit start clean ms run.2 in
     step_facts limit start m ms A.numbers A.pins (facts limit start clean ms run.2)
     (changes limit (length ms) (now start ms) m.event m.outcome m.state A.numbers.idle run.1))

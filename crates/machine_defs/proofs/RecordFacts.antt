@@ -1,5 +1,5 @@
 -- What holds of records in effect of which each put's start has the number that was next.
-use Rattle.machine_defs.proofs.Words.{◌≡◌, ◌≤◌, false, cond, ◌⊎◌, refl, ap, sym, subst, ◌∙◌, inl, inr, arith, eqb-true, eq-eqb, ne_eqb, cases_Bool, false≢true, In, Record, SetUp, PutStart, PutDone, Drop, AuditStart, AuditDone, RepairDone, PutDoneIn, Version, Resume, InEffect, RepairDue, File, next_id, started_as, is_same_name, is_start_of, file_of, files_of, with_put, with_file, without_file, is_name_before, setup_of, profile_in, same-eq, same-refl}
+use Rattle.machine_defs.proofs.Words.{◌≡◌, ◌≤◌, false, cond, ◌⊎◌, refl, ap, sym, ◌∙◌, inl, inr, arith, eqb-true, eq-eqb, ne_eqb, cases_Bool, false≢true, In, Record, PutStart, PutDone, Drop, PutDoneIn, Resume, InEffect, RepairDue, File, next_id, started_as, is_same_name, is_start_of, file_of, files_of, with_put, with_file, without_file, is_name_before, setup_of, profile_in, same-eq, same-refl}
 use Rattle.std.proofs.Common.{ℕ, ◌<◌, ◌==◌, List, [], ◌∷◌, Option, Some, None}
 use Rattle.record_defs.proofs.SoundLaws.{start_name}
 use Rattle.machine_defs.proofs.JobLists.{cond_true, cond_false, same_value}
@@ -104,8 +104,7 @@ put-not_started rs k size profile q f h st S = elim (cases_Bool (k == f.id)) [
         (Some (record { name = q; id = k; size = size; profile = profile })) (file_of rs q) t) ∙ h in
         cc) in
         false≢true (sym o ∙ eq-eqb k f.id (ap (λ (x : File). x.id) same)))
-    | inr n ↦ (let old = sym
-        (cond_false (is_start_of q (started_as rs k))
+    | inr n ↦ (let old = sym (cond_false (is_start_of q (started_as rs k))
         (Some (record { name = q; id = k; size = size; profile = profile })) (file_of rs q) n) ∙ h in
         let e = (S.file q f old).1 in let g : None ≡ Some q = sym e ∙ st in cc)
   ])
@@ -120,7 +119,7 @@ done-not_started rs (Drop name) q f proper h st S = st_none name h
   where
     st_none : (n : List ℕ) → file_of (Drop n ∷ rs) q ≡ Some f → started_as rs f.id ≡ None
     st_none n g = elim (cases_Bool (is_same_name n q)) [
-      | inl t ↦ (let e : None ≡ Some f = sym (cond_true (is_same_name n q) None (file_of rs q) t) ∙ g in cc)
+      | inl t ↦ (let e = sym (cond_true (is_same_name n q) None (file_of rs q) t) ∙ g in cc)
       | inr o ↦ (S.file q f (sym (cond_false (is_same_name n q) None (file_of rs q) o) ∙ g)).1
     ]
 done-not_started rs (PutDoneIn k size profile) q f proper h st S =
@@ -128,8 +127,7 @@ done-not_started rs (PutDoneIn k size profile) q f proper h st S =
 done-not_started rs (Resume next audit) q f proper h st S = absurd proper
 done-not_started rs (InEffect k size profile kept) q f proper h st S = absurd proper
 done-not_started rs (RepairDue number counts) q f proper h st S = absurd proper
-done-not_started rs r q f proper h st S =
-    absurd (let e = (S.file q f h).1 in let g : None ≡ Some q = sym e ∙ st in cc)
+done-not_started rs r q f proper h st S = absurd (let e = (S.file q f h).1 in let g = sym e ∙ st in cc)
 
 next_id-more : (rs : List Record) (r : Record) → IsProper rs r → next_id rs ≤ next_id (r ∷ rs)
 next_id-more rs (Resume next audit) proper = absurd proper
@@ -200,17 +198,16 @@ in_without : (fs : List File) (n : List ℕ) (g : File) → In g (without_file f
 in_without [] n g h = absurd h
 in_without (f ∷ fs) n g h = elim (cases_Bool (is_same_name f.name n)) [
   | inl t ↦ (let p = in_without fs n g
-      (subst (λ l. In g l) (cond_true (is_same_name f.name n) (without_file fs n) (f ∷ without_file fs n) t)
-      h) in (inr p.0, p.1))
+      (rw (cond_true (is_same_name f.name n) (without_file fs n) (f ∷ without_file fs n) t) at h) in
+      (inr p.0, p.1))
   | inr o ↦ kept o (in_without fs n g)
-      (subst (λ l. In g l) (cond_false (is_same_name f.name n) (without_file fs n) (f ∷ without_file fs n) o)
-      h)
+      (rw (cond_false (is_same_name f.name n) (without_file fs n) (f ∷ without_file fs n) o) at h)
 ]
   where
     kept : is_same_name f.name n ≡ false →
         (In g (without_file fs n) → In g fs × (is_same_name g.name n ≡ false)) →
         In g (f ∷ without_file fs n) → In g (f ∷ fs) × (is_same_name g.name n ≡ false)
-    kept o rest (inl e) = (inl e, ap (λ (x : File). is_same_name x.name n) e ∙ o)
+    kept o rest (inl e) = (inl e, ap (λ x. is_same_name x.name n) e ∙ o)
     kept o rest (inr i) = (let p = rest i in (inr p.0, p.1))
 
 in_with : (fs : List File) (x g : File) → In g (with_file fs x) → (g ≡ x) ⊎ In g fs
@@ -218,9 +215,8 @@ in_with [] x g (inl e) = inl e
 in_with [] x g (inr i) = absurd i
 in_with (f ∷ fs) x g h = elim (cases_Bool (is_name_before f.name x.name)) [
   | inl t ↦ later (in_with fs x g)
-      (subst (λ l. In g l) (cond_true (is_name_before f.name x.name) (f ∷ with_file fs x) (x ∷ f ∷ fs) t) h)
-  | inr o ↦ here (subst (λ l. In g l)
-      (cond_false (is_name_before f.name x.name) (f ∷ with_file fs x) (x ∷ f ∷ fs) o) h)
+      (rw (cond_true (is_name_before f.name x.name) (f ∷ with_file fs x) (x ∷ f ∷ fs) t) at h)
+  | inr o ↦ here (rw (cond_false (is_name_before f.name x.name) (f ∷ with_file fs x) (x ∷ f ∷ fs) o) at h)
 ]
   where
     later : (In g (with_file fs x) → (g ≡ x) ⊎ In g fs) → In g (f ∷ with_file fs x) → (g ≡ x) ⊎ In g (f ∷ fs)
@@ -238,9 +234,8 @@ put-listed : (rs : List Record) (k size profile : ℕ) (g : File) (o : Option (L
     cond (is_start_of g.name (started_as rs k))
     (Some (record { name = g.name; id = k; size = size; profile = profile })) (file_of rs g.name)
     ≡ Some g
-put-listed rs k size profile g None is i rest =
-    cond_false (is_start_of g.name (started_as rs k)) _ (file_of rs g.name)
-    (ap (is_start_of g.name) is) ∙ rest i
+put-listed rs k size profile g None is i rest = cond_false (is_start_of g.name (started_as rs k)) _
+    (file_of rs g.name) (ap (is_start_of g.name) is) ∙ rest i
 put-listed rs k size profile g (Some n) is i rest =
     elim (in_with (without_file (files_of rs) n)
     (record { name = n; id = k; size = size; profile = profile }) g i) [
@@ -263,8 +258,7 @@ pub listed_file : (rs : List Record) (g : File) → In g (files_of rs) → file_
 listed_file [] g h = absurd h
 listed_file (PutDone k size ∷ rs) g h =
     put-listed rs k size (profile_in (setup_of rs)) g (started_as rs k) refl h (listed_file rs g)
-listed_file (Drop n ∷ rs) g h =
-    (let p = in_without (files_of rs) n g h in
+listed_file (Drop n ∷ rs) g h = (let p = in_without (files_of rs) n g h in
     cond_false (is_same_name n g.name) None (file_of rs g.name)
     (other_name n g.name (λ e. false≢true (sym p.1 ∙ (ap (λ x. is_same_name g.name x) e ∙ same-refl g.name))))
     ∙ listed_file rs g p.0)

@@ -32,7 +32,6 @@ none-is (Some x) h = absurd (false≢true (sym h))
 -- where a job begins nothing runs alone
 pub none_lone : (limit : ℕ) (w : State) (kind : Kind) (profile : Option ℕ) →
     refusal_of_begin limit w kind profile ≡ None → w.alone ≡ None
-none_lone limit w kind profile h =
-    none-is w.alone (left_false (is_some w.alone) (list_any is_upgrade (aims_of w.jobs))
-    (left_false (is_shut (sight_of w)) (are_jobs_in_the_way limit (aims_of w.jobs) (aim_of kind))
-    (not_busy limit w kind profile h)))
+none_lone limit w kind profile h = none-is w.alone (left_false (is_some w.alone)
+    (list_any is_upgrade (aims_of w.jobs)) (left_false (is_shut (sight_of w))
+    (are_jobs_in_the_way limit (aims_of w.jobs) (aim_of kind)) (not_busy limit w kind profile h)))

@@ -1,5 +1,5 @@
 -- What a report has of a job is what that job heard.
-use Rattle.machine_defs.proofs.Words.{◌≡◌, ◌≤◌, ◌⊎◌, refl, ap, sym, subst, ◌∙◌, inl, inr, arith, cases_Bool, eqb-true, append-nil, Kind, PutJob, GetJob, DropJob, AuditJob, RepairJob, UpgradeJob, Given, Fetched, Answered, Worked, Job, job_of, without_job, Answer, Event, Init, Step, Stop, Reopen, Continue, Outcome, Ready, Refused, Opened, More, Ended, Replaced, NothingHeld, Stopped, State, IsStart, Happens, Moment, now, IsRun, Entry, entries_of, heard_by_kind, heard_by, heard_at, reported_after, heard_in, given_to, NoneContinues, EndsJob}
+use Rattle.machine_defs.proofs.Words.{◌≡◌, ◌≤◌, ◌⊎◌, refl, ap, sym, subst, ◌∙◌, inl, inr, arith, cases_Bool, eqb-true, append-nil, Kind, GetJob, AuditJob, Given, Fetched, Answered, Worked, Job, job_of, without_job, Answer, Event, Init, Step, Stop, Reopen, Continue, Outcome, Ready, Refused, Opened, More, Ended, Replaced, NothingHeld, Stopped, State, IsStart, Happens, Moment, now, IsRun, Entry, entries_of, heard_by_kind, heard_by, heard_at, reported_after, heard_in, given_to, NoneContinues, EndsJob}
 use Rattle.std.proofs.Common.{ℕ, ◌<◌, ◌==◌, List, [], ◌∷◌, ◌++◌, length, Some}
 use Rattle.std.proofs.lemmas.List.{append_assoc}
 use Rattle.machine_defs.specs.Refusals as refusal
@@ -118,11 +118,10 @@ module _ (old : State) where
   -- what runs alone is no job, and no job runs beside it
   beside : (number : ℕ) (r : Outcome) (new : State) → old.jobs ≡ [] → new.next_job ≡ old.next_job →
       Report_is old (Step number) r new
-  beside number r new none next =
-      Report_is.same (λ xs. refl) (nothing_heard r) (inr none) (omega (arith, next))
+  beside number r new none next = Report_is.same (λ xs. refl) (nothing_heard r) (inr none) (omega arith)
     where
       nothing_heard : (r : Outcome) → heard_at old (Step number) r ≡ []
-      nothing_heard (Ended how) = ap (λ (js : List Job). heard_by (job_of js number)) none
+      nothing_heard (Ended how) = ap (λ js. heard_by (job_of js number)) none
       nothing_heard r = refl
 
   reports : (limit moment : ℕ) → IsLone old → Cases limit moment old (Report_is old)
@@ -236,9 +235,8 @@ module _ (limit : ℕ) (start : State) (clean : IsStart start) where
           | Report_is.same kept none (inl no_end) next ↦ absurd (subst IsNoEnd e.outcome no_end)
           | Report_is.same kept none (inr idle) next ↦ absurd
               (found_none (now start ms).jobs job.number job idle e.runs)
-          | Report_is.ended x at kept heard runs jobs next ↦
-              (let same : job.number ≡ x.number =
-              (let f : Step job.number ≡ Step x.number = sym e.event ∙ at in cc) in
+          | Report_is.ended x at kept heard runs jobs next ↦ (let same : job.number ≡ x.number
+              = (let f : Step job.number ≡ Step x.number = sym e.event ∙ at in cc) in
               let low = below ms run.2 job.number job e.runs in
               record {
                 gone = λ j h. (found_without (now start ms).jobs x.number job.number j
@@ -249,8 +247,7 @@ module _ (limit : ℕ) (start : State) (clean : IsStart start) where
 
     value_at : (m : Moment) (ms : List Moment) → Run (m ∷ ms) → EndsJob start m ms job →
         given_to job.number (heard_in start (m ∷ ms)) ≡ given_to job.number (heard_by (Some job))
-    value_at m ms run e =
-        ap (λ (x : Event). given_to job.number
+    value_at m ms run e = ap (λ (x : Event). given_to job.number
         (reported_after x (heard_in start ms) ++ heard_at (now start ms) x m.outcome)) e.event
         ∙ (ap (λ (r : Outcome). given_to job.number
         (heard_in start ms ++ heard_at (now start ms) (Step job.number) r)) e.outcome
@@ -266,8 +263,7 @@ module _ (limit : ℕ) (start : State) (clean : IsStart start) where
         Over (later ++ m ∷ ms) job.number ×
         (given_to job.number (heard_in start (later ++ m ∷ ms)) ≡ given_to job.number (heard_by (Some job)))
     stays [] m ms run e none = (over_at m ms run e, value_at m ms run e)
-    stays (p ∷ later) m ms run e none =
-        (let before = stays later m ms run.2 e none.1 in
+    stays (p ∷ later) m ms run e none = (let before = stays later m ms run.2 e none.1 in
         let old = now start (later ++ m ∷ ms) in
         let G = before.0 in
         let low = G.low in

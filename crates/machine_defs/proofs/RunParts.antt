@@ -44,11 +44,9 @@ own_block w job j stripe = block_to_store w job job.kind j job.subject stripe
 abbrev pub with_store : State → Job → ℕ → ℕ → State
 with_store w job j stripe =
     record (going_on w (advanced job)) {
-      providers = with_provider w.providers j
-          (record (w.providers j) {
-            held = option_map (with_block job.subject stripe (own_block w job j stripe))
-                (w.providers j).held;
-          });
+      providers = with_provider w.providers j (record (w.providers j) {
+        held = option_map (with_block job.subject stripe (own_block w job j stripe)) (w.providers j).held;
+      });
     }
 
 -- by this call

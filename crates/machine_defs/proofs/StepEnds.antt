@@ -2,7 +2,7 @@
 use Rattle.machine_defs.proofs.Words.{◌≡◌, zero, suc, refl, ap, sym, subst, ◌∙◌, Job, job_of, Action, WriteBody, SyncBody, WriteGate, SyncGate, Store, Work, End, Answer, Event, Step, Outcome, Ended, State, Append, Scrub, Pack, Alone, Scrubbing, Packing, Moves, Ends, next_action, Acts, Steps, Scrubs, StepsScrub, Packs, StepsAlone, Happens}
 use Rattle.std.proofs.Common.{ℕ, List, [], ◌∷◌, Option, Some}
 use Rattle.machine_defs.specs.Answers as answer
-use Rattle.machine_defs.proofs.Cases.{IsStill, by_step}
+use Rattle.machine_defs.proofs.Cases.{by_step}
 
 -- an answer of an action that failed, or of what runs alone
 abbrev pub HasFailed : Answer → Type 0
@@ -70,22 +70,18 @@ pub by_end : (old : State) (job : Job) (how : Answer) (new : State) (Q : Type 0)
     ((action : Action) → next_action old job ≡ Some action → Acts old job action (Ended how) new → Q) →
     ((x : Alone) → old.alone ≡ Some x → StepsAlone old x (Ended how) new → Q) →
     Steps old job.number old.is_open (Ended how) new → Q
-by_end old job how new Q runs acts alone h =
-    by_step old (λ n r w. n ≡ job.number → r ≡ Ended how → w ≡ new → Q)
-    (λ n r still same is left. absurd (subst (IsStill (Step n)) is still))
+by_end old job how new Q runs acts alone h = by_step old (λ n r w. n ≡ job.number → r ≡ Ended how → w ≡ new →
+    Q) (λ n r still same is left. absurd (rw is at still))
     (λ x at is_open unbarred action r w next free made same is left. its x
-    (let e : Some x ≡ Some job = sym at ∙ (ap (job_of old.jobs) same ∙ runs) in let f : x ≡ job = cc in f)
-    action next (subst (λ (v : State). Acts old x action (Ended how) v) left
-    (subst (λ (o : Outcome). Acts old x action o w) is made)))
-    (λ n x r w at is_open unbarred made same is left.
-    alone x at (subst (λ (v : State). StepsAlone old x (Ended how) v) left
-    (subst (λ (o : Outcome). StepsAlone old x o w) is made)))
-    job.number old.is_open (Ended how) new refl h refl refl refl
+    (let e = sym at ∙ (ap (job_of old.jobs) same ∙ runs) in cc) action next
+    (rw left at (subst (λ (o : Outcome). Acts old x action o w) is made)))
+    (λ n x r w at is_open unbarred made same is left. alone x at
+    (rw left at (subst (λ (o : Outcome). StepsAlone old x o w) is made))) job.number old.is_open (Ended how)
+    new refl h refl refl refl
   where
     its : (x : Job) → x ≡ job → (action : Action) → next_action old x ≡ Some action →
         Acts old x action (Ended how) new → Q
-    its x same action next made = acts action (subst (λ (y : Job). next_action old y ≡ Some action) same next)
-        (subst (λ (y : Job). Acts old y action (Ended how) new) same made)
+    its x same action next made = acts action (rw same at next) (rw same at made)
 
 -- an event that is such a step of a job whose answer is of no failure is the end of that job
 pub event_end : (limit moment : ℕ) (old : State) (e : Event) (r : Outcome) (new : State) (job : Job)

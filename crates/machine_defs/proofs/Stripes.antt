@@ -1,5 +1,5 @@
 -- Where the fetches and the work on each stripe of a file stand.
-use Rattle.machine_defs.proofs.Words.{◌≡◌, zero, suc, ◌-◌, ◌≤◌, ◌⊎◌, refl, ap, sym, subst, ◌∙◌, inl, inr, arith, slice_get, flat_map, range_with_len, cases_eq, length-append, Each, each_get, each_append, each_map, each_mono, get_behind, upto, Setup, Action, WriteBody, SyncBody, WriteGate, SyncGate, Store, Fetch, Ask, Work, Remove, End, on_each_provider, open_actions}
+use Rattle.machine_defs.proofs.Words.{◌≡◌, zero, suc, ◌-◌, ◌≤◌, ◌⊎◌, refl, ap, sym, ◌∙◌, inl, inr, arith, slice_get, flat_map, range_with_len, cases_eq, length-append, Each, each_get, each_append, each_map, each_mono, get_behind, upto, Setup, Action, Fetch, Work, End, on_each_provider, open_actions}
 use Rattle.std.proofs.Common.{ℕ, ◌+◌, ◌<◌, List, [], ◌∷◌, ◌++◌, length, Some, None}
 use Rattle.std.proofs.lemmas.Option.{slice_get_within}
 use Rattle.machine_defs.proofs.ActionLists.{split_get}
@@ -37,11 +37,9 @@ module _ (s : Setup) (id : ℕ) where
   from zero a = tt
   from (suc n) a = each_append (From a) (open_actions s id a) (flat (range_with_len (a + 1) n))
       (each_append (From a) (on_each_provider s (λ j. Fetch j id a)) (Work id a ∷ [])
-      (each_map (From a) (λ j. Fetch j id a) (upto s.n) (λ j. (omega arith, refl)))
-      ((omega arith, refl), tt))
+      (each_map (From a) (λ j. Fetch j id a) (upto s.n) (λ j. (omega arith, refl))) ((omega arith, refl), tt))
       (each_mono (From (a + 1)) (From a) (flat (range_with_len (a + 1) n))
-      (λ x h. lower a x (subst (λ k. From k x) (let e : a + 1 ≡ suc a = omega arith in e) h))
-      (from n (a + 1)))
+      (λ x h. lower a x (rw (let e : a + 1 ≡ suc a = omega arith in e) at h)) (from n (a + 1)))
 
   piece_at : (a q : ℕ) (x : Action) → slice_get (open_actions s id a) q ≡ Some x →
       (((i : ℕ) × (x ≡ Fetch i id a)) × (q < length (on_each_provider s (λ j. Fetch j id a)))) ⊎
@@ -70,9 +68,8 @@ module _ (s : Setup) (id : ℕ) where
                   | inl v ↦ (let l = v.1 in let z = y.1 in omega arith)
                   | inr v ↦ absurd (let e : Fetch i o2 t ≡ Work id a = v.0 in cc)
                 ]
-                | inr u ↦ absurd (let l =
-                    (each_get (From (a + 1)) (flat (range_with_len (a + 1) n)) _ (Fetch i o2 t)
-                    (from n (a + 1)) u.1).0 in omega arith)
+                | inr u ↦ absurd (let l = (each_get (From (a + 1)) (flat (range_with_len (a + 1) n)) _
+                    (Fetch i o2 t) (from n (a + 1)) u.1).0 in omega arith)
               ])
         ]
         | inr x ↦ (let l = (each_get (From (a + 1)) (flat (range_with_len (a + 1) n)) _ (Work o t)
@@ -103,9 +100,8 @@ module _ (s : Setup) (id : ℕ) where
                   | inl v ↦ absurd (let e : Work o2 t ≡ Fetch v.0.0 id a = v.0.1 in cc)
                   | inr v ↦ v.1 ∙ sym y.1
                 ]
-                | inr u ↦ absurd (let l =
-                    (each_get (From (a + 1)) (flat (range_with_len (a + 1) n)) _ (Work o2 t)
-                    (from n (a + 1)) u.1).0 in omega arith)
+                | inr u ↦ absurd (let l = (each_get (From (a + 1)) (flat (range_with_len (a + 1) n)) _
+                    (Work o2 t) (from n (a + 1)) u.1).0 in omega arith)
               ])
         ]
         | inr x ↦ (let l = (each_get (From (a + 1)) (flat (range_with_len (a + 1) n)) _ (Work o t)
@@ -134,8 +130,7 @@ module _ (s : Setup) (id : ℕ) where
     )
     | inr e ↦ (let r = worked_on n (a + 1) t (omega arith) (omega arith) in (
       length (open_actions s id a) + r.0,
-      get_behind (open_actions s id a)
-          (flat (range_with_len (a + 1) n)) r.0 (Work id t) r.1,
+      get_behind (open_actions s id a) (flat (range_with_len (a + 1) n)) r.0 (Work id t) r.1,
     ))
   ]
 

@@ -1,5 +1,5 @@
 -- A file that came into effect stays until a record that takes it out is in doubt.
-use Rattle.machine_defs.proofs.Words.{◌≡◌, suc, Bool, false, refl, ap, sym, ◌∙◌, inl, inr, arith, cases_Bool, ne_eqb, Record, Setup, SetUp, PutStart, PutDone, Drop, AuditStart, AuditDone, RepairDone, PutDoneIn, Version, Resume, InEffect, RepairDue, File, file_as, setup_of, profile_in, started_as, is_start_of, is_same_name, file_of, done_record, State, Doubt, IsStart, Moment, now, newest, came, IsRun, ComesIn, takes_out, NoneTakesOut, IsKept, Survives, same-refl}
+use Rattle.machine_defs.proofs.Words.{◌≡◌, suc, Bool, false, refl, ap, sym, ◌∙◌, inl, inr, arith, cases_Bool, ne_eqb, Record, Setup, SetUp, PutDone, Drop, PutDoneIn, InEffect, File, file_as, setup_of, profile_in, started_as, is_start_of, is_same_name, file_of, done_record, State, Doubt, IsStart, Moment, now, newest, came, IsRun, ComesIn, takes_out, NoneTakesOut, IsKept, Survives, same-refl}
 use Rattle.std.proofs.Common.{ℕ, ◌==◌, List, [], ◌∷◌, ◌++◌, length, Some, None}
 use Rattle.machine_defs.proofs.JobLists.{cond_true, cond_false}
 use Rattle.machine_defs.proofs.Changes.{Records_is, Doubt_is, IsGated, Changes}
@@ -11,8 +11,7 @@ use Rattle.machine_defs.proofs.Numbers as num
 pub gated : (limit : ℕ) (start : State) → IsStart start → (ms : List Moment) → IsRun limit start ms →
     IsGated (now start ms)
 gated limit start clean [] run = λ a h three. absurd (let e : None ≡ Some a = sym clean.append ∙ h in cc)
-gated limit start clean (m ∷ ms) run =
-    (changes limit (length ms) (now start ms) m.event m.outcome m.state
+gated limit start clean (m ∷ ms) run = (changes limit (length ms) (now start ms) m.event m.outcome m.state
     (num.facts objects limit start clean ms run.2).idle run.1).gated (gated limit start clean ms run.2)
 
 -- a record that takes no file of a name out leaves the one in effect
@@ -31,11 +30,9 @@ pub shorter : (r : Record) (rs : List Record) → rs ≡ r ∷ rs → ⊥
 shorter r rs e = (let l : length rs ≡ suc (length rs) = ap length e in omega arith)
 
 pub came_none : (old new : State) (r : Record) → came old new ≡ Some r → new.records ≡ old.records → ⊥
-came_none old new r h rec =
-    (let e : None ≡ Some r =
-    sym (cond_false (nat_same (length new.records) (suc (length old.records))) (newest new.records) None
-    (ne_eqb (length new.records) (suc (length old.records))
-    (λ e. (let l = ap length rec in omega arith)))) ∙ h in cc)
+came_none old new r h rec = (cc (sym (cond_false (nat_same (length new.records) (suc (length old.records)))
+    (newest new.records) None (ne_eqb (length new.records) (suc (length old.records))
+    (λ e. (let l = ap length rec in omega arith)))) ∙ h))
   where
     nat_same : ℕ → ℕ → Bool
     nat_same a b = a == b
@@ -50,70 +47,69 @@ came_one old new r s rs h rec = elim (cases_Bool (length new.records == suc (len
 
 module _ (limit : ℕ) (start : State) (m : Moment) (ms : List Moment) (G : IsGated (now start ms))
     (X : Changes limit (length ms) (now start ms) m.event m.outcome m.state) where
+  abbrev old : State
+  old = now start ms
+
   -- at the moment at which it comes in
-  pub comes : (name : List ℕ) (file : File) → ComesIn (now start ms) m.state name file → IsKept m.state name file
+  pub comes : (name : List ℕ) (file : File) → ComesIn old m.state name file → IsKept m.state name file
   comes name file c = record { in_effect = at; with_doubt = λ d h. doubt d h }
     where
       ended : Record
       ended = done_record c.version file.id file.size file.profile
 
-      same_profile : profile_done c.version (now start ms).records file.profile ≡ file.profile
+      same_profile : profile_done c.version old.records file.profile ≡ file.profile
       same_profile = elim (cases_Bool (c.version == 2)) [
-        | inl t ↦ cond_true (c.version == 2) file.profile (profile_in (setup_of (now start ms).records)) t
-        | inr f ↦ cond_false (c.version == 2) file.profile (profile_in (setup_of (now start ms).records)) f
+        | inl t ↦ cond_true (c.version == 2) file.profile (profile_in (setup_of old.records)) t
+        | inr f ↦ cond_false (c.version == 2) file.profile (profile_in (setup_of old.records)) f
             ∙ sym (c.profiled f)
       ]
 
-      done : (rs : List Record) → m.state.records ≡ ended ∷ rs → rs ≡ (now start ms).records →
+      done : (rs : List Record) → m.state.records ≡ ended ∷ rs → rs ≡ old.records →
           file_of m.state.records name ≡ Some file
-      done rs rec is =
-          ap (λ l. file_of l name) (rec ∙ ap (λ l. ended ∷ l) is)
-          ∙ (done-file c.version file.id file.size file.profile (now start ms).records name
-          ∙ (cond_true (is_start_of name (started_as (now start ms).records file.id)) _
-          (file_of (now start ms).records name) (ap (is_start_of name) c.started ∙ same-refl name)
+      done rs rec is = ap (λ l. file_of l name) (rec ∙ ap (λ l. ended ∷ l) is)
+          ∙ (done-file c.version file.id file.size file.profile old.records name
+          ∙ (cond_true (is_start_of name (started_as old.records file.id)) _
+          (file_of old.records name) (ap (is_start_of name) c.started ∙ same-refl name)
           ∙ (ap (λ p. Some (file_as name file.id file.size p)) same_profile
           ∙ ap Some (ap (λ (n : List ℕ). file_as n file.id file.size file.profile) (sym c.named)))))
 
       top : (r : Record) (rs : List Record) → m.state.records ≡ r ∷ rs → m.state.records ≡ ended ∷ rs
-      top r rs rec = rec ∙ ap (λ (x : Record). x ∷ rs) (came_one (now start ms) m.state ended r rs c.done rec)
+      top r rs rec = rec ∙ ap (λ (x : Record). x ∷ rs) (came_one old m.state ended r rs c.done rec)
 
       not_setup : (s : Setup) → SetUp s ≡ ended → ⊥
       not_setup s e = (let f : None ≡ Some file.id = ap put_ended e
           ∙ done-ended c.version file.id file.size file.profile in cc)
 
       no_setup : (s : Setup) (rs : List Record) → m.state.records ≡ SetUp s ∷ rs → ⊥
-      no_setup s rs rec = not_setup s (came_one (now start ms) m.state ended (SetUp s) rs c.done rec)
+      no_setup s rs rec = not_setup s (came_one old m.state ended (SetUp s) rs c.done rec)
 
       at : file_of m.state.records name ≡ Some file
       at = elim X.records [
-        | Records_is.same rec ↦ absurd (came_none (now start ms) m.state ended c.done rec)
+        | Records_is.same rec ↦ absurd (came_none old m.state ended c.done rec)
         | Records_is.finished x a runs next_is flight mine moves rec ↦
-            done (now start ms).records (top a.entry (now start ms).records rec) refl
-        | Records_is.settled d in_doubt rec ↦ done (now start ms).records
-            (top d.entry (now start ms).records rec) refl
-        | Records_is.set_up s out rec ↦ absurd (no_setup s (now start ms).records rec)
-        | Records_is.settled_set_up s d in_doubt out rec ↦
-            absurd (no_setup s (d.entry ∷ (now start ms).records) rec)
+            done old.records (top a.entry old.records rec) refl
+        | Records_is.settled d in_doubt rec ↦ done old.records (top d.entry old.records rec) refl
+        | Records_is.set_up s out rec ↦ absurd (no_setup s old.records rec)
+        | Records_is.settled_set_up s d in_doubt out rec ↦ absurd (no_setup s (d.entry ∷ old.records) rec)
       ]
 
       doubt : (d : Doubt) → m.state.doubt ≡ Some d → file_of (d.entry ∷ m.state.records) name ≡ Some file
       doubt d h = elim (X.doubt d h) [
-        | Doubt_is.kept before rec ↦ absurd (came_none (now start ms) m.state ended c.done rec)
-        | Doubt_is.gated a flight entry rec ↦ absurd (came_none (now start ms) m.state ended c.done rec)
+        | Doubt_is.kept before rec ↦ absurd (came_none old m.state ended c.done rec)
+        | Doubt_is.gated a flight entry rec ↦ absurd (came_none old m.state ended c.done rec)
         | Doubt_is.set_up s entry ↦ ap (λ (r : Record). file_of (r ∷ m.state.records) name) entry ∙ at
       ]
 
   -- at each later one
-  pub stays : (name : List ℕ) (file : File) → IsKept (now start ms) name file → NoneTakesOut name m.state →
+  pub stays : (name : List ℕ) (file : File) → IsKept old name file → NoneTakesOut name m.state →
       IsKept m.state name file
   stays name file k none = record { in_effect = at; with_doubt = λ d h. doubt d h }
     where
       at : file_of m.state.records name ≡ Some file
       at = elim X.records [
         | Records_is.same rec ↦ ap (λ l. file_of l name) rec ∙ k.in_effect
-        | Records_is.finished x a runs next_is flight mine moves rec ↦
-            (let g = G a flight moves in
-            ap (λ l. file_of l name) (rec ∙ ap (λ (r : Record). r ∷ (now start ms).records) (sym g.2))
+        | Records_is.finished x a runs next_is flight mine moves rec ↦ (let g = G a flight moves in
+            ap (λ l. file_of l name) (rec ∙ ap (λ (r : Record). r ∷ old.records) (sym g.2))
             ∙ k.with_doubt g.0 g.1)
         | Records_is.settled d in_doubt rec ↦ ap (λ l. file_of l name) rec ∙ k.with_doubt d in_doubt
         | Records_is.set_up s out rec ↦ ap (λ l. file_of l name) rec ∙ k.in_effect
@@ -131,9 +127,8 @@ module _ (limit : ℕ) (start : State) (m : Moment) (ms : List Moment) (G : IsGa
 -- a file that came in stays at every later moment until a record that takes it out is in doubt
 pub survives : Survives
 survives limit start [] ms m name file clean run c never =
-    comes limit start m ms (gated limit start clean ms run.2)
-    (changes limit (length ms) (now start ms) m.event m.outcome m.state
-    (num.facts objects limit start clean ms run.2).idle run.1) name file c
+    comes limit start m ms (gated limit start clean ms run.2) (changes limit (length ms) (now start ms)
+    m.event m.outcome m.state (num.facts objects limit start clean ms run.2).idle run.1) name file c
 survives limit start (x ∷ later) ms m name file clean run c never =
     (let k = survives limit start later ms m name file clean run.2 c never.1 in
     stays limit start x (later ++ m ∷ ms) (gated limit start clean (later ++ m ∷ ms) run.2)

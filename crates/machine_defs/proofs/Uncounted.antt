@@ -1,12 +1,12 @@
 -- What ends or is refused for want of memory counts no fault.
-use Rattle.machine_defs.proofs.Words.{◌≡◌, refl, ap, sym, subst, ◌∙◌, inl, inr, cases_Bool, eqb-true, Provider, FindsNoMemory, Setup, is_setup, Job, Action, WriteBody, SyncBody, WriteGate, SyncGate, Store, End, Init, Step, Reopen, Outcome, Refused, Ended, State, Append, Scrub, Pack, Alone, Scrubbing, Packing, with_provider, Moves, Acts, StepsScrub, Packs, StepsAlone, InitsBy, Inits, Happens}
-use Rattle.std.specs.Prelude.{ℕ, suc, zero, ◌==◌, Bool, true, false, List, [], ◌∷◌, Option, Some}
+use Rattle.machine_defs.proofs.Words.{◌≡◌, refl, ap, sym, ◌∙◌, inl, inr, cases_Bool, eqb-true, Provider, FindsNoMemory, Setup, is_setup, Job, Action, WriteBody, SyncBody, WriteGate, SyncGate, Store, End, Init, Step, Reopen, Outcome, Refused, Ended, State, Append, Scrub, Pack, Alone, Scrubbing, Packing, with_provider, Moves, Acts, StepsScrub, Packs, StepsAlone, InitsBy, Inits, Happens}
+use Rattle.std.specs.Prelude.{ℕ, suc, zero, ◌==◌, Bool, true, false, List, ◌∷◌, Option, Some}
 use Rattle.machine_defs.specs.Refusals as refusal
 use Rattle.machine_defs.specs.Answers as answer
 use Rattle.machine_defs.specs.States.{ended, given_up}
 use Rattle.machine_defs.specs.Failures.{Count, OfDisk, OfStores, OfOthers, count_in}
 use Rattle.machine_defs.specs.Alone.{unalone}
-use Rattle.machine_defs.proofs.Cases.{IsStill, by_step}
+use Rattle.machine_defs.proofs.Cases.{by_step}
 use Rattle.machine_defs.proofs.JobLists.{cond_true, cond_false}
 
 module _ (old : State) where
@@ -60,8 +60,7 @@ module _ (old : State) where
   scrubs : (scrub : Scrub) (todo : List Action) (new : State) →
       StepsScrub old scrub todo (Ended answer.Memory) new → Keeps new
   scrubs scrub (Store j o s ∷ rest) new (p, call, is) = unstored j p (unalone old) new refl call is
-  scrubs scrub [] new h = absurd h
-  scrubs scrub (action ∷ rest) new h = absurd h
+  scrubs scrub _ new h = absurd h
 
   packs : (pack : Pack) (made : ℕ) (new : State) → Packs old pack made (Ended answer.Memory) new → Keeps new
   packs pack zero new is = quiet _ new refl refl is
@@ -87,13 +86,10 @@ module _ (old : State) where
 pub memory_counts_none : (limit moment : ℕ) (old new : State) (number : ℕ) →
     Happens limit moment old (Step number) (Ended answer.Memory) new → (count : Count) →
     count_in count new ≡ count_in count old
-memory_counts_none limit moment old new number h =
-    by_step old Left (λ n r still is. absurd (subst (IsStill (Step n)) is still))
-    (λ job runs is_open unbarred action r w next free made is.
-    acts old job action w (subst (λ (o : Outcome). Acts old job action o w) is made))
-    (λ n x r w at is_open unbarred made is.
-    alone old x w (subst (λ (o : Outcome). StepsAlone old x o w) is made))
-    number old.is_open (Ended answer.Memory) new refl h refl
+memory_counts_none limit moment old new number h = by_step old Left (λ n r still is. absurd (rw is at still))
+    (λ job runs is_open unbarred action r w next free made is. acts old job action w (rw is at made))
+    (λ n x r w at is_open unbarred made is. alone old x w (rw is at made)) number old.is_open
+    (Ended answer.Memory) new refl h refl
   where
     Left : ℕ → Outcome → State → Type 0
     Left n r w = r ≡ Ended answer.Memory → (count : Count) → count_in count w ≡ count_in count old

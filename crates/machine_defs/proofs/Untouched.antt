@@ -1,5 +1,5 @@
 -- The file of a name stays while no job that puts or drops the name begins.
-use Rattle.machine_defs.proofs.Words.{◌≡◌, ◌≤◌, ◌⊎◌, false, refl, ap, sym, subst, ◌∙◌, inl, inr, arith, cases_Bool, cases_eq, cases_lt, eq-eqb, Record, PutStart, File, file_as, setup_of, version_of, next_id, started_as, is_start_of, is_same_name, same-eq, Kind, PutJob, GetJob, DropJob, AuditJob, RepairJob, UpgradeJob, Job, job_of, WriteBody, SyncGate, Event, Step, Begun, More, Ended, State, Append, IsStart, Writes, done_record, is_first_append, next_action, Moment, now, IsRun, takes_out, NoneTakesOut, NeverTakenOut, IsKept, EndsPut, IsBeginOf, NoneBegan, GivesUp, Instruction, Once, RunJob, GoOn, CarriesOut, Answer, Touches, IsBeginFor, BeginsNone, NoneBeganFor, NoneRuns, NoneUnderWay, at_start, unbegun, IsBeginOn, NoneBeganOn, NoneAsksOn, NoneOn, IsUntouched}
+use Rattle.machine_defs.proofs.Words.{◌≡◌, ◌≤◌, ◌⊎◌, false, refl, ap, sym, subst, ◌∙◌, inl, inr, arith, cases_Bool, cases_eq, cases_lt, eq-eqb, Record, PutStart, File, file_as, setup_of, version_of, next_id, started_as, is_start_of, is_same_name, same-eq, Kind, PutJob, GetJob, DropJob, AuditJob, Job, job_of, WriteBody, SyncGate, Event, Step, Begun, More, Ended, State, Append, IsStart, Writes, done_record, is_first_append, next_action, Moment, now, IsRun, takes_out, NoneTakesOut, NeverTakenOut, IsKept, EndsPut, IsBeginOf, NoneBegan, GivesUp, Instruction, Once, RunJob, GoOn, CarriesOut, Answer, Touches, IsBeginFor, BeginsNone, NoneBeganFor, NoneRuns, NoneUnderWay, at_start, unbegun, IsBeginOn, NoneBeganOn, NoneAsksOn, NoneOn, IsUntouched}
 use Rattle.std.proofs.Common.{ℕ, ◌+◌, ◌<◌, ◌==◌, List, [], ◌∷◌, ◌++◌, length, Some, None}
 use Rattle.machine_defs.specs.Answers as answer
 use Rattle.machine_defs.specs.Untouched.{given_up, ended}
@@ -26,94 +26,9 @@ begin_for : (Meant : Kind → Type 0) (e : Event) (j : Job) → IsBeginOf e j �
 begin_for Meant e j (inl is) t = subst (IsBeginFor Meant) (sym is) t
 begin_for Meant e j (inr (n, bytes, kind, is)) t = subst (IsBeginFor Meant) (sym is) (subst Meant kind t)
 
--- a running job of a kind that is meant ran before an event that began none
-ran_on : (Meant : Kind → Type 0) (limit : ℕ) (start : State) (m : Moment) (ms : List Moment) →
-    IsRun limit start (m ∷ ms) → BeginsNone Meant m → (k : ℕ) (j : Job) → job_of m.state.jobs k ≡ Some j →
-    Meant j.kind → Had (now start ms) k j
-ran_on Meant limit start m ms run none k j h t =
-    elim (came_all (now start ms) limit (length ms) m.event m.outcome m.state run.1 k j h) [
-      | Came.had x numbered ↦ x
-      | Came.fresh event outcome begun ↦ absurd (none (begin_for Meant m.event j event t) k outcome)
-    ]
-
--- while none begins, none runs where none did
-pub none_on : (Meant : Kind → Type 0) (limit : ℕ) (start : State) (later ms : List Moment) →
-    IsRun limit start (later ++ ms) → NoneRuns Meant (now start ms) → NoneBeganFor Meant later →
-    NoneRuns Meant (now start (later ++ ms))
-none_on Meant limit start [] ms run none began = none
-none_on Meant limit start (m ∷ later) ms run none began = λ k j h t.
-    (let x = ran_on Meant limit start m (later ++ ms) run began.0 k j h t in
-    none_on Meant limit start later ms run.2 none began.1 k x.job x.runs (subst Meant x.kind t))
-
 no_fewer : (later ms : List Moment) → length ms ≤ length (later ++ ms)
 no_fewer [] ms = omega arith
 no_fewer (m ∷ later) ms = (let l = no_fewer later ms in omega arith)
-
--- one that runs behind a moment at which none did began there or later
-pub begun_later : (Meant : Kind → Type 0) (limit : ℕ) (start : State) (later ms : List Moment) →
-    IsRun limit start (later ++ ms) → NoneRuns Meant (now start ms) → (k : ℕ) (j : Job) →
-    job_of (now start (later ++ ms)).jobs k ≡ Some j → Meant j.kind → length ms ≤ j.begun
-begun_later Meant limit start [] ms run none k j h t = absurd (none k j h t)
-begun_later Meant limit start (m ∷ later) ms run none k j h t =
-    elim (came_all (now start (later ++ ms)) limit (length (later ++ ms)) m.event m.outcome m.state run.1 k j
-    h) [
-      | Came.had x numbered ↦
-          (let l = begun_later Meant limit start later ms run.2 none k x.job x.runs (subst Meant x.kind t) in
-          let e = x.begun in omega arith)
-      | Came.fresh event outcome begun ↦ (let l = no_fewer later ms in omega arith)
-    ]
-
--- none runs at a start
-none_at_start : (Meant : Kind → Type 0) (start : State) → IsStart start → NoneRuns Meant start
-none_at_start Meant start clean = λ k j h t. found_none start.jobs k j clean.jobs h
-
--- where none began, none runs
-pub none_ran : (Meant : Kind → Type 0) (limit : ℕ) (start : State) → IsStart start → (ms : List Moment) →
-    IsRun limit start ms → NoneBeganFor Meant ms → NoneRuns Meant (now start ms)
-none_ran Meant limit start clean [] run began = none_at_start Meant start clean
-none_ran Meant limit start clean (m ∷ ms) run began = λ k j h t.
-    (let x = ran_on Meant limit start m ms run began.0 k j h t in
-    none_ran Meant limit start clean ms run.2 began.1 k x.job x.runs (subst Meant x.kind t))
-
--- behind a begin before which none ran, and since which none began, only a job of its number does
-pub only_its : (Meant : Kind → Type 0) (limit : ℕ) (start : State) (between older : List Moment) (b : Moment) →
-    IsRun limit start (between ++ b ∷ older) → NoneRuns Meant (now start older) →
-    NoneBeganFor Meant between → (k : ℕ) (j : Job) →
-    job_of (now start (between ++ b ∷ older)).jobs k ≡ Some j → Meant j.kind → b.outcome ≡ Begun k
-only_its Meant limit start [] older b run none began = λ k j h t.
-    elim (came_all (now start older) limit (length older) b.event b.outcome b.state run.1 k j h) [
-      | Came.had x numbered ↦ absurd (none k x.job x.runs (subst Meant x.kind t))
-      | Came.fresh event outcome begun ↦ outcome
-    ]
-only_its Meant limit start (m ∷ between) older b run none began = λ k j h t.
-    (let x = ran_on Meant limit start m (between ++ b ∷ older) run began.0 k j h t in
-    only_its Meant limit start between older b run.2 none began.1 k x.job x.runs (subst Meant x.kind t))
-
--- none runs behind the end of the one job that did
-pub none_left : (Meant : Kind → Type 0) (limit : ℕ) (start : State) → IsStart start →
-    (between older : List Moment) (m b : Moment) (number : ℕ) (how : Answer) →
-    IsRun limit start (m ∷ (between ++ b ∷ older)) → NoneRuns Meant (now start older) →
-    NoneBeganFor Meant between → b.outcome ≡ Begun number → m.event ≡ Step number → m.outcome ≡ Ended how →
-    NoneRuns Meant m.state
-none_left Meant limit start clean between older m b number how run none before begun event over =
-    λ k j h t.
-    (let ms = between ++ b ∷ older in
-    let x = ran_on Meant limit start m ms run (λ on n is. subst (IsBeginFor Meant) event on) k j h t in
-    let e : Begun k ≡ Begun number =
-    sym (only_its Meant limit start between older b run.2 none before k x.job x.runs (subst Meant x.kind t))
-    ∙ begun in
-    let same : k ≡ number = cc in
-    let gone = ended_gone limit (length ms) (now start ms) m.event m.outcome m.state number how x.job
-    (num.facts objects limit start clean ms run.2).idle.lone
-    (subst (λ n. job_of (now start ms).jobs n ≡ Some x.job) same x.runs) event over run.1 in
-    (found_without (now start ms).jobs number k j (ap (λ l. job_of l k) (sym gone) ∙ h)).0 same)
-
--- none runs behind an event that gives up all jobs
-pub none_given_up : (Meant : Kind → Type 0) (limit : ℕ) (start : State) (m : Moment) (ms : List Moment) →
-    IsRun limit start (m ∷ ms) → GivesUp m.event → NoneRuns Meant m.state
-none_given_up Meant limit start m ms run up = λ k j h t.
-    found_none m.state.jobs k j
-    (given_up_none limit (length ms) (now start ms) m.event m.outcome m.state up run.1) h
 
 -- the first moments of a run are one
 pub run_back : (limit : ℕ) (start : State) (later ms : List Moment) → IsRun limit start (later ++ ms) →
@@ -121,19 +36,95 @@ pub run_back : (limit : ℕ) (start : State) (later ms : List Moment) → IsRun 
 run_back limit start [] ms run = run
 run_back limit start (m ∷ later) ms run = run_back limit start later ms run.2
 
--- where none is under way, as the events tell, none runs
-pub none_under_way : (Meant : Kind → Type 0) (limit : ℕ) (start : State) → IsStart start →
-    (ms : List Moment) → NoneUnderWay Meant ms → IsRun limit start ms → NoneRuns Meant (now start ms)
-none_under_way Meant limit start clean _ at_start run = none_at_start Meant start clean
-none_under_way Meant limit start clean _ (given_up m ms up) run = none_given_up Meant limit start m ms run up
-none_under_way Meant limit start clean _ (unbegun m ms begins free) run = λ k j h t.
-    (let x = ran_on Meant limit start m ms run begins k j h t in
-    none_under_way Meant limit start clean ms free run.2 k x.job x.runs (subst Meant x.kind t))
-none_under_way Meant limit start clean _
-    (ended m b between older number how event outcome none begun free) run =
-    none_left Meant limit start clean between older m b number how run
-    (none_under_way Meant limit start clean older free (run_back limit start between (b ∷ older) run.2).2)
-    none begun event outcome
+-- none runs at a start
+none_at_start : (Meant : Kind → Type 0) (start : State) → IsStart start → NoneRuns Meant start
+none_at_start Meant start clean = λ k j h t. found_none start.jobs k j clean.jobs h
+
+module _ (Meant : Kind → Type 0) (limit : ℕ) (start : State) where
+  -- a running job of a kind that is meant ran before an event that began none
+  ran_on : (m : Moment) (ms : List Moment) → IsRun limit start (m ∷ ms) → BeginsNone Meant m → (k : ℕ)
+      (j : Job) → job_of m.state.jobs k ≡ Some j → Meant j.kind → Had (now start ms) k j
+  ran_on m ms run none k j h t =
+      elim (came_all (now start ms) limit (length ms) m.event m.outcome m.state run.1 k j h) [
+        | Came.had x numbered ↦ x
+        | Came.fresh event outcome begun ↦ absurd (none (begin_for Meant m.event j event t) k outcome)
+      ]
+
+  -- while none begins, none runs where none did
+  pub none_on : (later ms : List Moment) → IsRun limit start (later ++ ms) → NoneRuns Meant (now start ms) →
+      NoneBeganFor Meant later → NoneRuns Meant (now start (later ++ ms))
+  none_on [] ms run none began = none
+  none_on (m ∷ later) ms run none began = λ k j h t. (let x = ran_on m (later ++ ms) run began.0 k j h t in
+      none_on later ms run.2 none began.1 k x.job x.runs (subst Meant x.kind t))
+
+  -- one that runs behind a moment at which none did began there or later
+  pub begun_later : (later ms : List Moment) →
+      IsRun limit start (later ++ ms) → NoneRuns Meant (now start ms) → (k : ℕ) (j : Job) →
+      job_of (now start (later ++ ms)).jobs k ≡ Some j → Meant j.kind → length ms ≤ j.begun
+  begun_later [] ms run none k j h t = absurd (none k j h t)
+  begun_later (m ∷ later) ms run none k j h t =
+      elim (came_all (now start (later ++ ms)) limit (length (later ++ ms)) m.event m.outcome m.state run.1 k j
+      h) [
+        | Came.had x numbered ↦
+            (let l = begun_later later ms run.2 none k x.job x.runs (subst Meant x.kind t) in
+            let e = x.begun in omega arith)
+        | Came.fresh event outcome begun ↦ (let l = no_fewer later ms in omega arith)
+      ]
+
+  -- where none began, none runs
+  pub none_ran : IsStart start → (ms : List Moment) →
+      IsRun limit start ms → NoneBeganFor Meant ms → NoneRuns Meant (now start ms)
+  none_ran clean [] run began = none_at_start Meant start clean
+  none_ran clean (m ∷ ms) run began = λ k j h t. (let x = ran_on m ms run began.0 k j h t in
+      none_ran clean ms run.2 began.1 k x.job x.runs (subst Meant x.kind t))
+
+  -- behind a begin before which none ran, and since which none began, only a job of its number does
+  pub only_its : (between older : List Moment) (b : Moment) → IsRun limit start (between ++ b ∷ older) →
+      NoneRuns Meant (now start older) → NoneBeganFor Meant between → (k : ℕ) (j : Job) → job_of (now start
+      (between ++ b ∷ older)).jobs k ≡ Some j → Meant j.kind → b.outcome ≡ Begun k
+  only_its [] older b run none began = λ k j h t.
+      elim (came_all (now start older) limit (length older) b.event b.outcome b.state run.1 k j h) [
+        | Came.had x numbered ↦ absurd (none k x.job x.runs (subst Meant x.kind t))
+        | Came.fresh event outcome begun ↦ outcome
+      ]
+  only_its (m ∷ between) older b run none began = λ k j h t.
+      (let x = ran_on m (between ++ b ∷ older) run began.0 k j h t in
+      only_its between older b run.2 none began.1 k x.job x.runs (subst Meant x.kind t))
+
+  -- none runs behind the end of the one job that did
+  pub none_left : IsStart start → (between older : List Moment) (m b : Moment) (number : ℕ) (how : Answer) →
+      IsRun limit start (m ∷ (between ++ b ∷ older)) → NoneRuns Meant (now start older) →
+      NoneBeganFor Meant between → b.outcome ≡ Begun number → m.event ≡ Step number → m.outcome ≡ Ended how →
+      NoneRuns Meant m.state
+  none_left clean between older m b number how run none before begun event over =
+      λ k j h t. (let ms = between ++ b ∷ older in
+      let x = ran_on m ms run (λ on n is. subst (IsBeginFor Meant) event on) k j h t in
+      let e : Begun k ≡ Begun number =
+      sym (only_its between older b run.2 none before k x.job x.runs (subst Meant x.kind t)) ∙ begun in
+      let same : k ≡ number = cc in
+      let gone = ended_gone limit (length ms) (now start ms) m.event m.outcome m.state number how x.job
+      (num.facts objects limit start clean ms run.2).idle.lone
+      (subst (λ n. job_of (now start ms).jobs n ≡ Some x.job) same x.runs) event over run.1 in
+      (found_without (now start ms).jobs number k j (ap (λ l. job_of l k) (sym gone) ∙ h)).0 same)
+
+  -- none runs behind an event that gives up all jobs
+  pub none_given_up : (m : Moment) (ms : List Moment) →
+      IsRun limit start (m ∷ ms) → GivesUp m.event → NoneRuns Meant m.state
+  none_given_up m ms run up = λ k j h t. found_none m.state.jobs k j
+      (given_up_none limit (length ms) (now start ms) m.event m.outcome m.state up run.1) h
+
+  -- where none is under way, as the events tell, none runs
+  pub none_under_way : IsStart start →
+      (ms : List Moment) → NoneUnderWay Meant ms → IsRun limit start ms → NoneRuns Meant (now start ms)
+  none_under_way clean _ at_start run = none_at_start Meant start clean
+  none_under_way clean _ (given_up m ms up) run = none_given_up m ms run up
+  none_under_way clean _ (unbegun m ms begins free) run = λ k j h t.
+      (let x = ran_on m ms run begins k j h t in
+      none_under_way clean ms free run.2 k x.job x.runs (subst Meant x.kind t))
+  none_under_way clean _ (ended m b between older number how event outcome none begun free)
+      run = none_left clean between older m b number how run
+      (none_under_way clean older free (run_back limit start between (b ∷ older) run.2).2)
+      none begun event outcome
 
 -- ---- a name that is free
 
@@ -172,32 +163,30 @@ done_takes rs name v id size profile =
 module _ (limit : ℕ) (start : State) (m : Moment) (ms : List Moment) (name : List ℕ)
     (run : IsRun limit start (m ∷ ms)) (A : All start ms)
     (X : Changes limit (length ms) (now start ms) m.event m.outcome m.state) where
-  rs : List Record
-  rs = (now start ms).records
+  abbrev old : State
+  old = now start ms
 
   -- the records after an event that leaves a job running
   abbrev Growth : Type 0
-  Growth = (m.state.records ≡ (now start ms).records) ⊎ ((a : Append) × ((now start ms).append ≡ Some a) ×
-      (m.state.records ≡ a.entry ∷ (now start ms).records))
+  Growth = (m.state.records ≡ old.records) ⊎ ((a : Append) × (old.append ≡ Some a) ×
+      (m.state.records ≡ a.entry ∷ old.records))
 
-  growth : (k : ℕ) → Grown (now start ms) m.state k → Growth
+  growth : (k : ℕ) → Grown old m.state k → Growth
   growth k (Grown.as_before rec) = inl rec
   growth k (Grown.by_other x a runs next_is flight mine other rec) = inr (a, flight, rec)
 
   -- a number that is not started stays so
-  quiet : Growth → (id : ℕ) → id < next_id (now start ms).records →
-      started_as (now start ms).records id ≡ None →
+  quiet : Growth → (id : ℕ) → id < next_id old.records → started_as old.records id ≡ None →
       (id < next_id m.state.records) × (started_as m.state.records id ≡ None)
   quiet (inl rec) id l h = ((let e = ap next_id rec in omega arith), ap (λ rs. started_as rs id) rec ∙ h)
   quiet (inr (a, flight, rec)) id l h = (
-    (let e = next_of_records objects (now start ms) m.state A.numbers.written X.records in omega arith),
+    (let e = next_of_records objects old m.state A.numbers.written X.records in omega arith),
     ap (λ rs. started_as rs id) rec
-        ∙ not_started-more (now start ms).records a.entry id (A.pins.append_proper a flight) l h,
+        ∙ not_started-more old.records a.entry id (A.pins.append_proper a flight) l h,
   )
 
-  carried : (x j : Job) (kind : Kind) → Growth → x.place ≤ j.place →
-      (4 ≤ x.place → Draws objects kind → j.subject ≡ x.subject) → Apart name (now start ms).records x kind →
-      Apart name m.state.records j kind
+  carried : (x j : Job) (kind : Kind) → Growth → x.place ≤ j.place → (4 ≤ x.place → Draws objects kind →
+      j.subject ≡ x.subject) → Apart name old.records x kind → Apart name m.state.records j kind
   carried x j (PutJob n bytes) g place subject apart = λ e.
       (let p = apart e in let s = subject p.0 tt in let q = quiet g x.subject p.1 p.2 in (
         (let l = p.0 in omega arith),
@@ -208,84 +197,74 @@ module _ (limit : ℕ) (start : State) (m : Moment) (ms : List Moment) (name : L
   carried x j kind g place subject apart = tt
 
   -- what a job that takes no file of the name out writes takes none out
-  writes_none : (x : Job) (kind : Kind) (entry : Record) →
-      job_of (now start ms).jobs x.number ≡ Some x → x.kind ≡ kind →
-      next_action (now start ms) x ≡ Some WriteBody → Apart name (now start ms).records x kind →
-      Writes (now start ms) x kind entry → takes_out (now start ms).records name entry ≡ false
+  writes_none : (x : Job) (kind : Kind) (entry : Record) → job_of old.jobs x.number ≡ Some x → x.kind ≡ kind →
+      next_action old x ≡ Some WriteBody → Apart name old.records x kind → Writes old x kind entry →
+      takes_out old.records name entry ≡ false
   writes_none x (PutJob n bytes) entry runs kind next_is apart h = elim (cases_lt x.place 4) [
-    | inl l ↦ ap (takes_out (now start ms).records name)
-        (h ∙ cond_true (is_first_append x) (PutStart (next_id (now start ms).records) n)
-        (done_record (version_of (now start ms).records) x.subject (length bytes) x.profile)
-        (first_below x l))
-    | inr l ↦ ap (takes_out (now start ms).records name)
-        (h ∙ cond_false (is_first_append x) (PutStart (next_id (now start ms).records) n)
-        (done_record (version_of (now start ms).records) x.subject (length bytes) x.profile)
-        (first_above x l))
-        ∙ (done_takes (now start ms).records name (version_of (now start ms).records) x.subject (length bytes)
+    | inl l ↦ ap (takes_out old.records name)
+        (h ∙ cond_true (is_first_append x) (PutStart (next_id old.records) n)
+        (done_record (version_of old.records) x.subject (length bytes) x.profile) (first_below x l))
+    | inr l ↦ ap (takes_out old.records name)
+        (h ∙ cond_false (is_first_append x) (PutStart (next_id old.records) n)
+        (done_record (version_of old.records) x.subject (length bytes) x.profile) (first_above x l))
+        ∙ (done_takes old.records name (version_of old.records) x.subject (length bytes)
         x.profile ∙ other l)
   ]
     where
-      early : PutAt (now start ms) x bytes x.place WriteBody → 4 ≤ x.place →
-          x.place < 8 + stores_count (now start ms) x bytes
+      early : PutAt old x bytes x.place WriteBody → 4 ≤ x.place → x.place < 8 + stores_count old x bytes
       early (PutAt.first l e) late = absurd (omega arith)
       early (PutAt.store l k is) late = absurd is
       early (PutAt.second q is l e) late = omega arith
       early (PutAt.after l is) late = absurd is
 
-      other : 4 ≤ x.place → is_start_of name (started_as (now start ms).records x.subject) ≡ false
+      other : 4 ≤ x.place → is_start_of name (started_as old.records x.subject) ≡ false
       other late = elim (cases_Bool (is_same_name n name)) [
         | inl t ↦ ap (is_start_of name) (apart (same-eq n name t)).2
-        | inr f ↦ ap (is_start_of name)
-            (A.pins.started x.number x n bytes runs kind late
-            (early (put_next (now start ms) x n bytes WriteBody kind next_is) late)) ∙ f
+        | inr f ↦ ap (is_start_of name) (A.pins.started x.number x n bytes runs kind late
+            (early (put_next old x n bytes WriteBody kind next_is) late)) ∙ f
       ]
   writes_none x (GetJob n) entry runs kind next_is apart h = absurd h
   writes_none x (DropJob n) entry runs kind next_is apart h =
-      ap (takes_out (now start ms).records name) h ∙ other_name n name apart
+      ap (takes_out old.records name) h ∙ other_name n name apart
   writes_none x AuditJob entry runs kind next_is apart h = elim (cases_Bool (is_first_append x)) [
-    | inl t ↦ ap (takes_out (now start ms).records name) (let g = rw t at h in g)
-    | inr f ↦ (let g = rw f at h in ap (takes_out (now start ms).records name) g.2)
+    | inl t ↦ ap (takes_out old.records name) (rw t at h)
+    | inr f ↦ (ap (takes_out old.records name) (rw f at h).2)
   ]
-  writes_none x RepairJob entry runs kind next_is apart h = ap (takes_out (now start ms).records name) h
-  writes_none x UpgradeJob entry runs kind next_is apart h = ap (takes_out (now start ms).records name) h
+  writes_none x _ entry runs kind next_is apart h = ap (takes_out old.records name) h
 
-  same_taken : (entry : Record) → m.state.records ≡ (now start ms).records →
-      takes_out (now start ms).records name entry ≡ false → takes_out m.state.records name entry ≡ false
+  same_taken : (entry : Record) → m.state.records ≡ old.records →
+      takes_out old.records name entry ≡ false → takes_out m.state.records name entry ≡ false
   same_taken entry rec h = ap (λ rs. takes_out rs name entry) rec ∙ h
 
   -- a free name stays free while none begins on it
-  spared_step : (IsBeginOn name m.event → (n : ℕ) → m.outcome ≡ Begun n → ⊥) → IsSpared name (now start ms) →
+  spared_step : (IsBeginOn name m.event → (n : ℕ) → m.outcome ≡ Begun n → ⊥) → IsSpared name old →
       IsSpared name m.state
   spared_step none F = record { jobs = jobs; flight = flight; doubt = doubt }
     where
-      on : (x j : Job) (k : ℕ) → job_of (now start ms).jobs k ≡ Some x → Growth → x.place ≤ j.place →
-          j.kind ≡ x.kind → (4 ≤ x.place → Draws objects x.kind → j.subject ≡ x.subject) →
-          Apart name m.state.records j j.kind
-      on x j k runs g place kind subject = subst (Apart name m.state.records j) (sym kind)
-          (carried x j x.kind g place subject (F.jobs k x runs))
+      on : (x j : Job) (k : ℕ) → job_of old.jobs k ≡ Some x → Growth → x.place ≤ j.place → j.kind ≡ x.kind →
+          (4 ≤ x.place → Draws objects x.kind → j.subject ≡ x.subject) → Apart name m.state.records j j.kind
+      on x j k runs g place kind subject = rw (← kind) at (carried x j x.kind g place subject (F.jobs k x runs))
 
       jobs : (k : ℕ) (j : Job) → job_of m.state.jobs k ≡ Some j → Apart name m.state.records j j.kind
       jobs k j h = elim (X.job k j h) [
         | Job_is.kept r g ↦ on j j k r (growth k g) (omega arith) refl (λ l d. refl)
         | Job_is.begun kd profile is k_is allowed rec ↦ apart_of name m.state.records j j.kind
             (λ t. (let x = ran_on (Touches name) limit start m ms run none k j h t in
-            let l = A.numbers.jobs_below k x.job x.runs in omega arith))
+            omega (arith, A.numbers.jobs_below k x.job x.runs)))
         | Job_is.plain x action runs next_is is_plain goes rec stores_it ↦
-            on x j k runs (inl rec) (let e = goes.place in omega arith) goes.kind (λ l d. goes.subject)
+            on x j k runs (inl rec) (omega (arith, goes.place)) goes.kind (λ l d. goes.subject)
         | Job_is.drew x runs next_is none_ is rec ↦
-            on x j k runs (inl rec) (let e = ap (λ (y : Job). y.place) is in omega arith)
-            (ap (λ (y : Job). y.kind) is)
-            (λ l d. ap (λ (y : Job). y.subject) is
-            ∙ drawn_later (now start ms) x x.kind (first_above x l))
+            on x j k runs (inl rec) (omega (arith, ap (λ (y : Job). y.place) is)) (ap (λ y. y.kind) is)
+            (λ l d. ap (λ y. y.subject) is ∙ drawn_later old x x.kind (first_above x l))
         | Job_is.finished x a runs next_is flies mine is rec none_ ↦
-            on x j k runs (inr (a, flies, rec)) (let e = ap (λ (y : Job). y.place) is in omega arith)
-            (ap (λ (y : Job). y.kind) is) (λ l d. ap (λ (y : Job). y.subject) is)
+            on x j k runs (inr (a, flies, rec)) (omega (arith, ap (λ (y : Job). y.place) is))
+            (ap (λ y. y.kind) is) (λ l d. ap (λ y. y.subject) is)
       ]
 
       flight : (a : Append) → m.state.append ≡ Some a → takes_out m.state.records name a.entry ≡ false
       flight a h = elim (X.append a h) [
         | Append_is.kept b flies job entry rec ↦ same_taken a.entry rec
-            (ap (takes_out (now start ms).records name) entry ∙ F.flight b flies)
+            (ap (takes_out old.records name) entry ∙ F.flight b flies)
         | Append_is.drew x runs next_is mine writes found rec ↦ same_taken a.entry rec
             (writes_none x x.kind a.entry runs refl next_is (F.jobs x.number x runs) writes)
       ]
@@ -294,7 +273,7 @@ module _ (limit : ℕ) (start : State) (m : Moment) (ms : List Moment) (name : L
       doubt d h = elim (X.doubt d h) [
         | Doubt_is.kept before rec ↦ same_taken d.entry rec (F.doubt d before)
         | Doubt_is.gated a flies entry rec ↦ same_taken d.entry rec
-            (ap (takes_out (now start ms).records name) entry ∙ F.flight a flies)
+            (ap (takes_out old.records name) entry ∙ F.flight a flies)
         | Doubt_is.set_up s entry ↦ ap (takes_out m.state.records name) entry
       ]
 
@@ -334,34 +313,32 @@ record Since (start : State) (ms : List Moment) (name : List ℕ) (b : Moment) :
 module _ (limit : ℕ) (start : State) (m : Moment) (ms : List Moment) (name : List ℕ) (b : Moment)
     (clean : IsStart start) (run : IsRun limit start (m ∷ ms))
     (none : IsBeginOn name m.event → (n : ℕ) → m.outcome ≡ Begun n → ⊥) (S : Since start ms name b) where
+  abbrev was : State
+  was = now start ms
+
   A : All start ms
   A = all limit start clean ms run.2
 
-  X : Changes limit (length ms) (now start ms) m.event m.outcome m.state
-  X = changes limit (length ms) (now start ms) m.event m.outcome m.state A.numbers.idle run.1
+  X : Changes limit (length ms) was m.event m.outcome m.state
+  X = changes limit (length ms) was m.event m.outcome m.state A.numbers.idle run.1
 
   only_step : (k : ℕ) (j : Job) → job_of m.state.jobs k ≡ Some j → Touches name j.kind → b.outcome ≡ Begun k
   only_step k j h t = (let x = ran_on (Touches name) limit start m ms run none k j h t in
       S.only k x.job x.runs (subst (Touches name) x.kind t))
 
-  one_number : (k l : ℕ) → b.outcome ≡ Begun k → b.outcome ≡ Begun l → k ≡ l
-  one_number k l p q = (let e : Begun k ≡ Begun l = sym p ∙ q in cc)
-
-  grown : (r : Record) → m.state.records ≡ r ∷ (now start ms).records →
-      m.state.records ≡ (now start ms).records → ⊥
-  grown r rec same = survive.shorter r (now start ms).records (sym same ∙ rec)
+  grown : (r : Record) → m.state.records ≡ r ∷ was.records → m.state.records ≡ was.records → ⊥
+  grown r rec same = survive.shorter r was.records (sym same ∙ rec)
 
   -- at the end of the put's second append the name is free
   module _ (k : ℕ) (j x : Job) (bytes : List ℕ) (a : Append) (version : ℕ) (h : job_of m.state.jobs k ≡ Some j)
-      (kind : j.kind ≡ PutJob name bytes) (late : 4 ≤ j.place) (flies : (now start ms).append ≡ Some a)
-      (mine : a.job ≡ k) (rec : m.state.records ≡ a.entry ∷ (now start ms).records)
+      (kind : j.kind ≡ PutJob name bytes) (late : 4 ≤ j.place) (flies : was.append ≡ Some a)
+      (mine : a.job ≡ k) (rec : m.state.records ≡ a.entry ∷ was.records)
       (entry : a.entry ≡ done_record version j.subject (length bytes) j.profile)
       (below : j.subject < next_id m.state.records) (landed : m.state.append ≡ None) where
     gone : started_as m.state.records j.subject ≡ None
-    gone = ap (λ rs. started_as rs j.subject)
-        (rec ∙ ap (λ (r : Record). r ∷ (now start ms).records) entry)
-        ∙ (done-started version j.subject (length bytes) j.profile (now start ms).records j.subject
-        ∙ cond_true (j.subject == j.subject) None (started_as (now start ms).records j.subject)
+    gone = ap (λ rs. started_as rs j.subject) (rec ∙ ap (λ (r : Record). r ∷ was.records) entry)
+        ∙ (done-started version j.subject (length bytes) j.profile was.records j.subject
+        ∙ cond_true (j.subject == j.subject) None (started_as was.records j.subject)
         (eq-eqb j.subject j.subject refl))
 
     its_own : (kd : Kind) → j.kind ≡ kd → Apart name m.state.records j kd
@@ -369,17 +346,13 @@ module _ (limit : ℕ) (start : State) (m : Moment) (ms : List Moment) (name : L
     its_own (DropJob n) is = absurd (let z : PutJob name bytes ≡ DropJob n = sym kind ∙ is in cc)
     its_own kd is = tt
 
-    at_own : (l : ℕ) (y : Job) → job_of m.state.jobs l ≡ Some y → l ≡ k → Apart name m.state.records y y.kind
-    at_own l y g e = subst (λ (z : Job). Apart name m.state.records z z.kind)
-        (same_value _ j y h (subst (λ n. job_of m.state.jobs n ≡ Some y) e g)) (its_own j.kind refl)
-
     free_now : IsSpared name m.state
     free_now = record {
       jobs = λ l y g. elim (cases_eq l k) [
-        | inl e ↦ at_own l y g e
-        | inr other ↦ apart_of name m.state.records y y.kind
-            (λ t. other (one_number l k (only_step l y g t)
-            (only_step k j h (subst (Touches name) (sym kind) refl))))
+        | inl e ↦ rw (same_value _ j y h (subst (λ n. job_of m.state.jobs n ≡ Some y) e g)) at
+            (its_own j.kind refl)
+        | inr other ↦ apart_of name m.state.records y y.kind (λ t. other
+            (cc (sym (only_step l y g t) ∙ (only_step k j h (subst (Touches name) (sym kind) refl)))))
       ];
       flight = λ c g. absurd (let z : None ≡ Some c = sym landed ∙ g in cc);
       doubt = λ d g. elim (X.doubt d g) [
@@ -389,7 +362,7 @@ module _ (limit : ℕ) (start : State) (m : Moment) (ms : List Moment) (name : L
       ];
     }
 
-  G : IsGated (now start ms)
+  G : IsGated was
   G = survive.gated limit start clean ms run.2
 
   kept_step : (k : ℕ) (j : Job) (bytes : List ℕ) → job_of m.state.jobs k ≡ Some j →
@@ -397,19 +370,17 @@ module _ (limit : ℕ) (start : State) (m : Moment) (ms : List Moment) (name : L
       IsKept m.state name (file_as name j.subject (length bytes) j.profile) × IsSpared name m.state
   kept_step k j bytes h kind late = elim (X.job k j h) [
     | Job_is.kept r (Grown.as_before rec) ↦ carry j r kind refl refl
-        (let e = count_same m.state (now start ms) j j bytes (ap setup_of rec) refl refl in omega arith)
+        (let e = count_same m.state was j j bytes (ap setup_of rec) refl refl in omega arith)
     | Job_is.kept r (Grown.by_other x a runs next_is flies mine other rec) ↦ carry j r kind refl refl
-        (let e = count_same m.state (now start ms) j j bytes
+        (let e = count_same m.state was j j bytes
         (setup_one limit start m ms A.numbers A.pins X a x flies runs mine rec) refl refl in omega arith)
     | Job_is.begun kd profile is k_is allowed rec ↦
         absurd (let e : j.place ≡ 0 = ap (λ (x : Job). x.place) is in omega arith)
     | Job_is.plain x action runs next_is is_plain goes rec stores_it ↦
         (let kx : x.kind ≡ PutJob name bytes = sym goes.kind ∙ kind in
-        let e = count_same m.state (now start ms) j x bytes (ap setup_of rec) goes.subject goes.profile in
-        let place = goes.place in
-        elim (cases_eq x.place (7 + stores_count (now start ms) x bytes)) [
-          | inl gate ↦ absurd (subst IsPlain (gate_at (now start ms) x name bytes action kx gate next_is)
-              is_plain)
+        let e = count_same m.state was j x bytes (ap setup_of rec) goes.subject goes.profile in
+        let place = goes.place in elim (cases_eq x.place (7 + stores_count was x bytes)) [
+          | inl gate ↦ absurd (subst IsPlain (gate_at was x name bytes action kx gate next_is) is_plain)
           | inr other ↦ carry x runs kx goes.subject goes.profile (omega arith)
         ])
     | Job_is.drew x runs next_is none_ is rec ↦
@@ -417,12 +388,11 @@ module _ (limit : ℕ) (start : State) (m : Moment) (ms : List Moment) (name : L
         let place : j.place ≡ x.place + 1 = ap (λ (y : Job). y.place) is in
         let late_x : 4 ≤ x.place = omega arith in
         let subject : j.subject ≡ x.subject = ap (λ (y : Job). y.subject) is
-        ∙ drawn_later (now start ms) x x.kind (first_above x late_x) in
-        let e = count_same m.state (now start ms) j x bytes (ap setup_of rec) subject
-        (ap (λ (y : Job). y.profile) is) in
-        elim (cases_eq x.place (7 + stores_count (now start ms) x bytes)) [
+        ∙ drawn_later was x x.kind (first_above x late_x) in
+        let e = count_same m.state was j x bytes (ap setup_of rec) subject (ap (λ (y : Job). y.profile) is) in
+        elim (cases_eq x.place (7 + stores_count was x bytes)) [
           | inl gate ↦ absurd (let z : WriteBody ≡ SyncGate =
-              gate_at (now start ms) x name bytes WriteBody kx gate next_is in cc)
+              gate_at was x name bytes WriteBody kx gate next_is in cc)
           | inr other ↦ carry x runs kx subject (ap (λ (y : Job). y.profile) is) (omega arith)
         ])
     | Job_is.finished x a runs next_is flies mine is rec landed ↦
@@ -432,7 +402,7 @@ module _ (limit : ℕ) (start : State) (m : Moment) (ms : List Moment) (name : L
         let subject : j.subject ≡ x.subject = ap (λ (y : Job). y.subject) is in
         let profile : j.profile ≡ x.profile = ap (λ (y : Job). y.profile) is in
         comes_now x a runs kx next_is late_x subject profile flies mine rec landed
-        (own.ended a x name bytes flies (subst (λ n. job_of (now start ms).jobs n ≡ Some x) (sym mine) runs)
+        (own.ended a x name bytes flies (subst (λ n. job_of was.jobs n ≡ Some x) (sym mine) runs)
         kx late_x))
   ]
     where
@@ -442,43 +412,38 @@ module _ (limit : ℕ) (start : State) (m : Moment) (ms : List Moment) (name : L
       file_j : File
       file_j = file_as name j.subject (length bytes) j.profile
 
-      carry : (x : Job) → job_of (now start ms).jobs k ≡ Some x → x.kind ≡ PutJob name bytes →
-          j.subject ≡ x.subject → j.profile ≡ x.profile → 8 + stores_count (now start ms) x bytes ≤ x.place →
+      carry : (x : Job) → job_of was.jobs k ≡ Some x → x.kind ≡ PutJob name bytes →
+          j.subject ≡ x.subject → j.profile ≡ x.profile → 8 + stores_count was x bytes ≤ x.place →
           IsKept m.state name file_j × IsSpared name m.state
-      carry x runs kx subject profile late_x =
-          (let p = S.kept k x bytes runs kx late_x in
+      carry x runs kx subject profile late_x = (let p = S.kept k x bytes runs kx late_x in
           let f = spared_step limit start m ms name run A X none p.1 in (
-            survive.stays limit start m ms G X name file_j
-                (subst (λ n. IsKept (now start ms) name (file_as name n (length bytes) j.profile))
-                (sym subject)
-                (subst (λ q. IsKept (now start ms) name (file_as name x.subject (length bytes) q))
+            survive.stays limit start m ms G X name file_j (subst (λ n. IsKept was name
+                (file_as name n (length bytes) j.profile)) (sym subject)
+                (subst (λ q. IsKept was name (file_as name x.subject (length bytes) q))
                 (sym profile) p.0)) f.doubt,
             f,
           ))
 
-      comes_now : (x : Job) (a : Append) → job_of (now start ms).jobs k ≡ Some x →
-          x.kind ≡ PutJob name bytes → next_action (now start ms) x ≡ Some SyncGate → 4 ≤ x.place →
-          j.subject ≡ x.subject → j.profile ≡ x.profile → (now start ms).append ≡ Some a → a.job ≡ k →
-          m.state.records ≡ a.entry ∷ (now start ms).records → m.state.append ≡ None →
-          prof.Ended (now start ms).records x bytes a.entry →
-          IsKept m.state name file_j × IsSpared name m.state
+      comes_now : (x : Job) (a : Append) → job_of was.jobs k ≡ Some x → x.kind ≡ PutJob name bytes →
+          next_action was x ≡ Some SyncGate → 4 ≤ x.place → j.subject ≡ x.subject → j.profile ≡ x.profile →
+          was.append ≡ Some a → a.job ≡ k → m.state.records ≡ a.entry ∷ was.records → m.state.append ≡ None →
+          prof.Ended was.records x bytes a.entry → IsKept m.state name file_j × IsSpared name m.state
       comes_now x a runs kx next_is late_x subject profile flies mine rec landed e =
-          (let place = gate_place (now start ms) x name bytes kx next_is late_x in
+          (let place = gate_place was x name bytes kx next_is late_x in
           let entry : a.entry ≡ done_record e.version j.subject (length bytes) j.profile = e.entry_is
           ∙ (ap (λ n. done_record e.version n (length bytes) x.profile) (sym subject)
           ∙ ap (λ q. done_record e.version j.subject (length bytes) q) (sym profile)) in
           let below = A.numbers.below k x runs (subst (Draws objects) (sym kx) tt, late_x) in (
-            survive.comes limit start m ms G X name file_j
-                (record {
-                  version = e.version;
-                  done = came_by (now start ms) m.state a.entry rec ∙ ap Some entry;
-                  profiled = λ old. profile ∙ e.profiled old;
-                  started = ap (started_as (now start ms).records) subject
-                      ∙ A.pins.started k x name bytes runs kx late_x (omega arith);
-                  named = refl;
-                }),
+            survive.comes limit start m ms G X name file_j (record {
+              version = e.version;
+              done = came_by was m.state a.entry rec ∙ ap Some entry;
+              profiled = λ v. profile ∙ e.profiled v;
+              started = ap (started_as was.records) subject
+                  ∙ A.pins.started k x name bytes runs kx late_x (omega arith);
+              named = refl;
+            }),
             free_now k j x bytes a e.version h kind (omega arith) flies mine rec entry
-                (let g = next_of_records objects (now start ms) m.state A.numbers.written X.records in
+                (let g = next_of_records objects was m.state A.numbers.written X.records in
                 omega arith) landed,
           ))
 
@@ -513,9 +478,8 @@ sinces : (limit : ℕ) (start : State) → IsStart start → (between ms : List 
     (name : List ℕ) → IsRun limit start (between ++ b ∷ ms) → NoneOn name (now start ms) →
     NoneBeganOn name between → Since start (between ++ b ∷ ms) name b
 sinces limit start clean [] ms b name run none began = since_begin limit start clean b ms name run none
-sinces limit start clean (m ∷ between) ms b name run none began =
-    since_step limit start m (between ++ b ∷ ms) name b clean run began.0
-    (sinces limit start clean between ms b name run.2 none began.1)
+sinces limit start clean (m ∷ between) ms b name run none began = since_step limit start m (between ++ b ∷ ms)
+    name b clean run began.0 (sinces limit start clean between ms b name run.2 none began.1)
 
 -- a file is kept while none begins on its free name
 keeps : (limit : ℕ) (start : State) → IsStart start → (later ms : List Moment) (name : List ℕ)
@@ -552,8 +516,7 @@ put_is_kept limit start clean later between older m b job name bytes run none be
     (all limit start clean ms at_end.2).numbers.idle at_end.1) no_begin p.1 in (
       S.only job.number job ends.runs (subst (Touches name) (sym ends.kind) refl),
       keeps limit start clean later (m ∷ ms) name (file_as name job.subject (length bytes) job.profile) run F
-          after
-          (survive.stays limit start m ms (survive.gated limit start clean ms at_end.2)
+          after (survive.stays limit start m ms (survive.gated limit start clean ms at_end.2)
           (changes limit (length ms) (now start ms) m.event m.outcome m.state
           (all limit start clean ms at_end.2).numbers.idle at_end.1) name
           (file_as name job.subject (length bytes) job.profile) p.0 F.doubt),

@@ -1,5 +1,5 @@
 -- Stores of puts use object numbers, and asks of audits use audit numbers.
-use Rattle.machine_defs.proofs.Words.{◌≡◌, ◌-◌, ◌≤◌, refl, sym, subst, ◌∙◌, inl, inr, slice_get, flat_map, Each, each_get, each_append, each_map, each_flat, upto, Setup, next_id, next_audit, PutJob, AuditJob, Job, Action, Store, Ask, Remove, End, append_actions, on_each_provider, store_actions, ask_actions, remove_actions, actions_by, put_stripes, State, setup_in, IsStart, next_action, Moment, now, IsRun, StoresFor, AsksFor, HasStored, HasAsked}
+use Rattle.machine_defs.proofs.Words.{◌≡◌, ◌-◌, ◌≤◌, refl, sym, subst, ◌∙◌, inl, inr, slice_get, Each, each_get, each_append, each_map, each_flat, upto, Setup, next_id, next_audit, PutJob, AuditJob, Job, Action, Store, Ask, Remove, End, append_actions, on_each_provider, store_actions, ask_actions, remove_actions, actions_by, put_stripes, State, setup_in, IsStart, next_action, Moment, now, IsRun, StoresFor, AsksFor, HasStored, HasAsked}
 use Rattle.std.proofs.Common.{ℕ, ◌<◌, List, [], ◌∷◌, ◌++◌, Some}
 use Rattle.machine_defs.proofs.ActionLists.{split_get}
 use Rattle.machine_defs.proofs.Numbers.{objects, audits, next_is_by, Draws, Uses, HasUsed, facts}
@@ -9,21 +9,13 @@ abbrev IsOwn : Job → Action → Type 0
 IsOwn job (Store j object stripe) = object ≡ job.subject
 IsOwn job action = Unit {0}
 
-own_removals : (s : Setup) (job : Job) (older : List ℕ) →
-    Each (IsOwn job) (flat_map (λ object. on_each_provider s (λ j. Remove j object)) older)
-own_removals s job older = each_flat (IsOwn job) (λ object. on_each_provider s (λ j. Remove j object)) older
-    (λ object. each_map (IsOwn job) (λ j. Remove j object) (upto s.n) (λ j. tt))
-
-own_stores : (s : Setup) (job : Job) (bytes : List ℕ) → Each (IsOwn job) (store_actions s job bytes)
-own_stores s job bytes =
-    each_flat (IsOwn job) (λ stripe. on_each_provider s (λ j. Store j job.subject stripe))
-    (upto (put_stripes s job bytes))
-    (λ stripe. each_map (IsOwn job) (λ j. Store j job.subject stripe) (upto s.n) (λ j. refl))
-
 own_tail : (s : Setup) (job : Job) (bytes : List ℕ) →
     Each (IsOwn job) (store_actions s job bytes ++ (append_actions ++ (remove_actions s job ++ End ∷ [])))
 own_tail s job bytes = each_append (IsOwn job) (store_actions s job bytes)
-    (append_actions ++ (remove_actions s job ++ End ∷ [])) (own_stores s job bytes) (
+    (append_actions ++ (remove_actions s job ++ End ∷ [])) (each_flat (IsOwn job)
+    (λ stripe. on_each_provider s (λ j. Store j job.subject stripe))
+    (upto (put_stripes s job bytes))
+    (λ stripe. each_map (IsOwn job) (λ j. Store j job.subject stripe) (upto s.n) (λ j. refl))) (
       tt,
       (
         tt,
@@ -32,7 +24,8 @@ own_tail s job bytes = each_append (IsOwn job) (store_actions s job bytes)
           (
             tt,
             each_append (IsOwn job) (remove_actions s job) (End ∷ [])
-                (own_removals s job job.older) (tt, tt),
+                (each_flat (IsOwn job) (λ object. on_each_provider s (λ j. Remove j object)) job.older
+                (λ object. each_map (IsOwn job) (λ j. Remove j object) (upto s.n) (λ j. tt))) (tt, tt),
           ),
         ),
       ),
@@ -58,9 +51,8 @@ put_store w job name bytes j object stripe kind h =
       | inl p ↦ absurd (each_get IsOther append_actions job.place (Store j object stripe) others p.1)
       | inr q ↦ (
         q.0,
-        each_get (IsOwn job)
-            (store_actions (setup_in w) job
-            bytes ++ (append_actions ++ (remove_actions (setup_in w) job ++ End ∷ []))) (job.place - 4)
+        each_get (IsOwn job) (store_actions (setup_in w) job bytes ++
+            (append_actions ++ (remove_actions (setup_in w) job ++ End ∷ []))) (job.place - 4)
             (Store j object stripe) (own_tail (setup_in w) job bytes) q.1,
       )
     ]

@@ -1,5 +1,5 @@
 -- The kinds of record that appends bring: those of a packed journal alone never come so.
-use Rattle.machine_defs.proofs.Words.{◌≡◌, false, Bool, sym, subst, inl, inr, cases_Bool, if◌then◌else◌, Record, PutStart, PutDone, PutDoneIn, Resume, InEffect, RepairDue, version_of, next_id, Kind, PutJob, GetJob, DropJob, AuditJob, RepairJob, UpgradeJob, Job, Event, Outcome, State, Append, Doubt, Writes, done_record, is_first_append}
+use Rattle.machine_defs.proofs.Words.{◌≡◌, false, Bool, sym, subst, inl, inr, cases_Bool, if◌then◌else◌, Record, PutStart, PutDone, PutDoneIn, Resume, InEffect, RepairDue, version_of, next_id, Kind, PutJob, GetJob, AuditJob, Job, Event, Outcome, State, Append, Doubt, Writes, done_record, is_first_append}
 use Rattle.std.proofs.Common.{ℕ, true, Some}
 use Rattle.std.specs.Prelude.{◌==◌, length}
 use Rattle.machine_defs.proofs.Changes.{Append_is, Doubt_is, Changes}

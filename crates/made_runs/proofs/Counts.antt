@@ -62,8 +62,7 @@ stepped-same w (Some job) = gone-same w job (next_action w job)
 plain-same : (start : State) (ms : List Moment) (n k : ℕ) →
     SameCounts (now start ms) (now start (gone_by start ms n k))
 plain-same start ms n zero = (refl, λ j. (refl, refl))
-plain-same start ms n (suc k) =
-    (let w = now start (gone_by start ms n k) in
+plain-same start ms n (suc k) = (let w = now start (gone_by start ms n k) in
     then-same (now start ms) w (stepped w n) (plain-same start ms n k) (stepped-same w (job_of w.jobs n)))
 
 -- a turn in which nothing fails
@@ -96,8 +95,7 @@ turn-same start ms n turn h = found-same (now start ms) (job_of (now start ms).j
 turns-same : (start : State) (ms : List Moment) (n : ℕ) (turns : List Turn) →
     list_all goes_well turns ≡ true → SameCounts (now start ms) (now start (job_run start ms n turns))
 turns-same start ms n [] h = (refl, λ j. (refl, refl))
-turns-same start ms n (turn ∷ turns) h =
-    (let rest = job_run start ms n turns in
+turns-same start ms n (turn ∷ turns) h = (let rest = job_run start ms n turns in
     then-same (now start ms) (now start rest) (now start (turned start rest n turn))
     (turns-same start ms n turns (second (goes_well turn) (list_all goes_well turns) h))
     (turn-same start rest n turn (first (goes_well turn) (list_all goes_well turns) h)))
@@ -124,6 +122,5 @@ one-same start ms i h = absurd h
 pub counts-stay : (start : State) (is : List Instruction) → AreWell is →
     SameCounts start (now start (run_of start is))
 counts-stay start [] h = (refl, λ j. (refl, refl))
-counts-stay start (i ∷ is) h =
-    then-same start (now start (run_of start is)) (now start (run_of start (i ∷ is)))
-    (counts-stay start is h.1) (one-same start (run_of start is) i h.0)
+counts-stay start (i ∷ is) h = then-same start (now start (run_of start is))
+    (now start (run_of start (i ∷ is))) (counts-stay start is h.1) (one-same start (run_of start is) i h.0)

@@ -115,8 +115,7 @@ acts w job End c = absurd (false≢true c)
 
 -- an action that need not wait is made as it acts
 pub free : (w new : State) (job : Job) (action : Action) (outcome : Outcome) (holder : Option ℕ) →
-    not (is_some holder) ≡ true → Acts w job action outcome new →
-    ActsOrWaits w job action holder outcome new
+    not (is_some holder) ≡ true → Acts w job action outcome new → ActsOrWaits w job action holder outcome new
 free w new job action outcome None c a = a
 free w new job action outcome (Some h) c a = absurd (false≢true c)
 
@@ -143,8 +142,7 @@ ready w new n outcome c s = opened w.is_open c
 goes : (w : State) (job : Job) (next : Option Action) → can_go w job next ≡ true →
     StepsOn w job next More (gone w job next)
 goes w job None c = absurd (false≢true c)
-goes w job (Some action) c =
-    (let held = is_some (holder_of w.append action) in
+goes w job (Some action) c = (let held = is_some (holder_of w.append action) in
     free w (acted w job action) job action More (holder_of w.append action)
     (first (not held) (can_act w job action) c)
     (acts w job action (second (not held) (can_act w job action) c)))

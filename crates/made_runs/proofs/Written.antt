@@ -67,8 +67,7 @@ by-on : (start : State) (ms : List Moment) (n : ℕ) (ts : List Turn) → all_mo
     GoOn n (own_by start ms n ts)
 by-on start ms n [] c = tt
 by-on start ms n (t ∷ ts) c = on-append n (own_turned start (job_run start ms n ts) n t)
-    (own_by start ms n ts)
-    (turned-on start (job_run start ms n ts) n t (first (is_more t) (all_more ts) c))
+    (own_by start ms n ts) (turned-on start (job_run start ms n ts) n t (first (is_more t) (all_more ts) c))
     (by-on start ms n ts (second (is_more t) (all_more ts) c))
 
 -- those of steps of what runs alone

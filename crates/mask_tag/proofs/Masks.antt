@@ -23,8 +23,7 @@ pub masks_more : (out key : List ℕ) (first i x : ℕ) (g : ChaCha) → i < len
     take i out ≡ masks_from key first i →
     g ≡ at_row key (first + i) → x ≡ next_symbol g → take (i + 1) (set out i x) ≡ masks_from key first (i + 1)
 unfolding stream_symbol
-masks_more out key first i x g below filled e f =
-    take_more_set out i x below
+masks_more out key first i x g below filled e f = take_more_set out i x below
     ∙ ap (λ (l : List ℕ). l ++ x ∷ []) filled
     ∙ ap (λ (y : ℕ). masks_from key first i ++ y ∷ []) (f ∙ ap next_symbol e)
     ∙ sym (map-range_with_len_more (mask_of key) first i (first + i) refl)

@@ -60,8 +60,7 @@ one-more : (a : List Record) (e : Record) (b : List Record) (x y : List ℕ) →
     (newer : List Record) → Last newer → a ≡ newer ++ b → Goes-on a (e ∷ b) ⊎ Goes-on (e ∷ b) a
 one-more a e b x y all fits same newer (empty none) parts =
     inr (e ∷ [], ap (λ (l : List Record). e ∷ l) (sym (parts ∙ ap (λ (l : List Record). l ++ b) none)))
-one-more a e b x y all fits same newer (behind n r last) parts =
-    (let split : a ≡ n ++ r ∷ b = parts
+one-more a e b x y all fits same newer (behind n r last) parts = (let split : a ≡ n ++ r ∷ b = parts
     ∙ (ap (λ (l : List Record). l ++ b) last ∙ append_assoc n (r ∷ []) b) in
     let next = next-behind n r b x (1 ∷ (spelling e ++ y))
     (subst (λ (l : List Record). entries l ++ x ≡ entries b ++ (1 ∷ (spelling e ++ y))) split same) in
@@ -88,8 +87,7 @@ ends-there : (a b newer : List Record) (x y : List ℕ) → Good b → NoneStand
     entries a ++ x ≡ entries b ++ y → Last newer → b ≡ newer ++ a → Goes-on a b
 ends-there a b newer x y all none same (empty e) parts =
     ([], sym (parts ∙ ap (λ (l : List Record). l ++ a) e))
-ends-there a b newer x y all none same (behind n r last) parts =
-    (let split : b ≡ n ++ r ∷ a = parts
+ends-there a b newer x y all none same (behind n r last) parts = (let split : b ≡ n ++ r ∷ a = parts
     ∙ (ap (λ (l : List Record). l ++ a) last ∙ append_assoc n (r ∷ []) a) in
     let next = next-behind n r a y x
     (subst (λ (l : List Record). entries l ++ y ≡ entries a ++ x) split (sym same)) in
@@ -131,8 +129,7 @@ refused-none bytes area rs x older at all accepted none is F =
 refused-later : (bytes : List ℕ) (area : Area) (rs older : List Record) (at other : ℕ) → AreAccepted rs →
     (F : RefusesIn bytes area rs at) → (G : RefusesIn bytes area older other) →
     (newer : List Record) → F.entry ∷ rs ≡ newer ++ G.entry ∷ older → at ≡ other
-refused-later bytes area rs older at other accepted F G [] e =
-    (let same : rs ≡ older = cc in F.place
+refused-later bytes area rs older at other accepted F G [] e = (let same : rs ≡ older = cc in F.place
     ∙ (ap (λ (l : List Record). base_of area + length (entries l) + 1) same ∙ sym G.place))
 refused-later bytes area rs older at other accepted F G (m ∷ n) e =
     absurd (let same : rs ≡ n ++ G.entry ∷ older = cc in
@@ -204,8 +201,7 @@ pub bad-once : (bytes : List ℕ) (at other : ℕ) → IsBadStart bytes at → I
 bad-once bytes at other (inl a) (inl b) = a.1 ∙ sym b.1
 bad-once bytes at other (inl a) (inr S) = absurd (a.0 S.active.switch S.active.front)
 bad-once bytes at other (inr S) (inl b) = absurd (b.0 S.active.switch S.active.front)
-bad-once bytes at other (inr S) (inr T) =
-    (let same = one_name bytes T.area S.area T.active S.active in
+bad-once bytes at other (inr S) (inr T) = (let same = one_name bytes T.area S.area T.active S.active in
     stops-once bytes S.area S.active S.records T.records at other S.accepted T.accepted S.stops
     (subst (λ (x : Area). StopsBehind bytes x T.records other) same T.stops))
 
@@ -213,8 +209,7 @@ bad-once bytes at other (inr S) (inr T) =
 pub bad-none : (bytes : List ℕ) (at : ℕ) (area : Area) (rs : List Record) → AreAccepted rs →
     StandsActive bytes area rs → IsBadStart bytes at → ⊥
 bad-none bytes at area rs accepted S (inl a) = a.0 S.active.switch S.active.front
-bad-none bytes at area rs accepted S (inr T) =
-    (let same = one_name bytes T.area area T.active S.active in
+bad-none bytes at area rs accepted S (inr T) = (let same = one_name bytes T.area area T.active S.active in
     stops-none bytes area S.active rs T.records at accepted S
     (subst (λ (x : Area). StopsBehind bytes x T.records at) same T.stops))
 

@@ -41,8 +41,7 @@ front-named bytes rest is = record {
 -- so does a blank disk
 blank-named : (old blank : Cells) (area : Area) → IsBlankIn old area blank → HasArea (reads blank) area
 blank-named old blank area (IsBlankIn.short short first is) =
-    subst (HasArea (reads blank)) (sym first)
-    (front-named (reads blank) (drop 9 (reads old))
+    subst (HasArea (reads blank)) (sym first) (front-named (reads blank) (drop 9 (reads old))
     (ap reads is ∙ reads-within 0 (text []) old (omega arith)))
 blank-named old blank area (IsBlankIn.empty stands is) =
     let here = active-front largest_journal (reads old) area [] stands in

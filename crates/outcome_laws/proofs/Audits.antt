@@ -42,8 +42,7 @@ module _ (limit : ℕ) (start : State) (m : Moment) (ms : List Moment) (clean : 
   whole number undecided counts late is sums = record {
     kind = kind;
     subject = sym is;
-    asked = λ file j round in_f k in_r.
-        (let F = made.facts limit start clean ms run.2 in
+    asked = λ file j round in_f k in_r. (let F = made.facts limit start clean ms run.2 in
         let at = ask_at (setup_in (now start ms)) job file j round kind (contains_in job.pinned file in_f) k
         (contains_in (rounds_of (profiled (setup_in (now start ms)) file.profile) (length file.bytes)) round
         in_r) in

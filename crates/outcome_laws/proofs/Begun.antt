@@ -17,8 +17,7 @@ module _ (limit : ℕ) (start : State) (m : Moment) (ms : List Moment) (A : All 
   carried : (k : ℕ) (x j : Job) → job_of (now start ms).jobs k ≡ Some x → j.pinned ≡ x.pinned →
       j.kind ≡ x.kind → j.begun ≡ x.begun → (x.kind ≡ RepairJob → j.subject ≡ x.subject) →
       AsBegun start (m ∷ ms) j
-  carried k x j runs pinned kind begun subject =
-      (let f = F k x runs in
+  carried k x j runs pinned kind begun subject = (let f = F k x runs in
       let same : begin_of start ms x ≡ begin_of start (m ∷ ms) j =
       ap (now start) (sym (ap (λ n. first_moments n (m ∷ ms)) begun
       ∙ first_more x.begun m ms (A.held.begun k x runs))) in
@@ -52,9 +51,8 @@ module _ (limit : ℕ) (start : State) (m : Moment) (ms : List Moment) (A : All 
         })
     | Job_is.plain x action runs next_is is_plain goes rec st ↦
         carried k x j runs goes.pinned goes.kind goes.begun (λ e. goes.subject)
-    | Job_is.drew x runs next_is free is rec ↦
-        carried k x j runs (ap (λ (y : Job). y.pinned) is) (ap (λ (y : Job). y.kind) is)
-        (ap (λ (y : Job). y.begun) is)
+    | Job_is.drew x runs next_is free is rec ↦ carried k x j runs (ap (λ (y : Job). y.pinned) is)
+        (ap (λ (y : Job). y.kind) is) (ap (λ (y : Job). y.begun) is)
         (λ e. ap (λ (y : Job). y.subject) is ∙ ap (subject_drawn (now start ms) x) e)
     | Job_is.finished x a runs next_is flight mine is rec free ↦
         carried k x j runs (ap (λ (y : Job). y.pinned) is) (ap (λ (y : Job). y.kind) is)
@@ -65,8 +63,7 @@ module _ (limit : ℕ) (start : State) (m : Moment) (ms : List Moment) (A : All 
 pub as_begun : (limit : ℕ) (start : State) → IsStart start → (ms : List Moment) → IsRun limit start ms →
     (k : ℕ) (j : Job) → job_of (now start ms).jobs k ≡ Some j → AsBegun start ms j
 as_begun limit start clean [] run = λ k j h. absurd (found_none start.jobs k j clean.jobs h)
-as_begun limit start clean (m ∷ ms) run =
-    (let A = all limit start clean ms run.2 in
+as_begun limit start clean (m ∷ ms) run = (let A = all limit start clean ms run.2 in
     begun_step limit start m ms A
     (changes limit (length ms) (now start ms) m.event m.outcome m.state A.numbers.idle run.1)
     (as_begun limit start clean ms run.2))

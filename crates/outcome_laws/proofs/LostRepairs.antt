@@ -62,8 +62,7 @@ module _ (limit : ℕ) (mark : Mark) (start : State) (ms : List Moment) (clean :
     -- so no row is lost
     not_lost : (row : ℕ) → LosesRow (pinned_object (now start ms) f) stripe
         (blocks_given job.given (setup_in (now start ms)).n f.id stripe) row → ⊥
-    not_lost row h = h.lost
-        (row_polynomial (pinned_object (now start ms) f)
+    not_lost row h = h.lost (row_polynomial (pinned_object (now start ms) f)
         (symbols_in (pinned_object (now start ms) f) ((now start ms).bytes f.id) stripe) h.place)
         (row-right (pinned_object (now start ms) f) ((now start ms).bytes f.id) f.profile stripe h.place
         (blocks_given job.given (setup_in (now start ms)).n f.id stripe) h.opened refl
@@ -78,8 +77,7 @@ module _ (limit : ℕ) (mark : Mark) (start : State) (ms : List Moment) (clean :
       next_action (now start ms) job ≡ Some (Work f.id stripe) →
       LosesRow (worked_object (now start ms) job f.id) stripe
       (blocks_given job.given (setup_in (now start ms)).n f.id stripe) row → ⊥
-  loses_none none f in_file stripe row low next_is lost =
-      (let E = always limit start clean ms run in
+  loses_none none f in_file stripe row low next_is lost = (let E = always limit start clean ms run in
       not_lost f stripe in_file
       (subst (λ (y : List ℕ). stripe < stripes_of (profiled (setup_in (now start ms)) f.profile) (length y))
       (E.pinned job.number job f runs in_file) low)

@@ -86,12 +86,10 @@ module _ (limit : ℕ) (mark : Mark) (start : State) (m : Moment) (ms : List Mom
   -- it is lost only where a provider's count rose since its begin
   lost_by : (stripe row : ℕ) → m.outcome ≡ Ended (answer.Lost stripe row) →
       (i : ℕ) × (i < (setup_in (now start ms)).n) × RoseSince (begin_of start ms job) m.state i
-  lost_by stripe row outcome =
-      (let w = step_lost (now start ms) job m.state stripe row (now start ms).is_open
-      (all limit start h.clean ms h.run.2).numbers.idle.lone runs
-      (subst (λ (x : Event). Happens limit (length ms) (now start ms) x (Ended (answer.Lost stripe row))
-      m.state) event
-      (subst (λ (r : Outcome). Happens limit (length ms) (now start ms) m.event r m.state) outcome
+  lost_by stripe row outcome = (let w = step_lost (now start ms) job m.state stripe row (now start ms).is_open
+      (all limit start h.clean ms h.run.2).numbers.idle.lone runs (subst
+      (λ (x : Event). Happens limit (length ms) (now start ms) x (Ended (answer.Lost stripe row)) m.state)
+      event (subst (λ (r : Outcome). Happens limit (length ms) (now start ms) m.event r m.state) outcome
       h.run.1)) in
       let r = count_rose limit mark start ms h.clean h.run.2
       (marked_facts limit mark start h.clean h.tell ms h.run.2 h.calm.1 h.marks.1)
@@ -101,8 +99,7 @@ module _ (limit : ℕ) (mark : Mark) (start : State) (m : Moment) (ms : List Mom
   -- it says the number of the audit that was due
   due_at : (number : ℕ) → m.outcome ≡ Ended (answer.Repaired number) →
       (u : Due) × (due_of (begin_of start ms job).records ≡ Some u) × (number ≡ u.number)
-  due_at number outcome =
-      (let e = event_end limit (length ms) (now start ms) m.event m.outcome m.state job
+  due_at number outcome = (let e = event_end limit (length ms) (now start ms) m.event m.outcome m.state job
       (answer.Repaired number) (λ z. z) event outcome runs h.run.1 in
       let is : number ≡ job.subject =
       subst (λ kd. Ends (now start ms) job kd (answer.Repaired number)) kind e.1 in

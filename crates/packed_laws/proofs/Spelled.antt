@@ -50,9 +50,8 @@ all-put : (p : File → Bool) (fs : List File) (o : Option (List ℕ)) (id size 
     list_all p fs ≡ true → ((name : List ℕ) → o ≡ Some name → p (file_as name id size profile) ≡ true) →
     list_all p (with_put fs o id size profile) ≡ true
 all-put p fs None id size profile h each = h
-all-put p fs (Some name) id size profile h each =
-    all-with p (without_file fs name) (file_as name id size profile) (all-without p fs name h)
-    (each name refl)
+all-put p fs (Some name) id size profile h each = all-with p (without_file fs name)
+    (file_as name id size profile) (all-without p fs name h) (each name refl)
 
 -- ---- setups, names and files of records that have a spelling
 
@@ -80,9 +79,8 @@ profile-fits rs g = by (setup_of rs) refl
     by (Some s) e = fits s (setup-spelled rs s g e)
 
 -- a name is that of one start, or of another one
-named-by : (k id : ℕ) (n name : List ℕ) (o : Option (List ℕ)) →
-    (if k == id then Some n else o) ≡ Some name → is_name n ≡ true → (o ≡ Some name → is_name name ≡ true) →
-    is_name name ≡ true
+named-by : (k id : ℕ) (n name : List ℕ) (o : Option (List ℕ)) → (if k == id then Some n else o) ≡ Some name →
+    is_name n ≡ true → (o ≡ Some name → is_name name ≡ true) → is_name name ≡ true
 named-by k id n name o h g later = elim (cases_Bool (k == id)) [
   | inl t ↦ (let same : Some n ≡ Some name = grind (arith, h, t) in let e : n ≡ name = cc in
       subst (λ x. is_name x ≡ true) e g)
@@ -102,17 +100,14 @@ start-named id name h = (and_parts (nat_lt id (2 ^ 64)) (is_name name) h).1
 
 -- a name that a put was started under is a name
 pub started-spelled : (rs : List Record) (id : ℕ) (name : List ℕ) → AreSpelled rs →
-    started_as rs id ≡ Some name →
-    is_name name ≡ true
+    started_as rs id ≡ Some name → is_name name ≡ true
 started-spelled [] id name g h = absurd (none-some name h)
 started-spelled (PutStart k n ∷ rs) id name g h = named-by k id n name (started_as rs id) h
-    (start-named k n (first (PutStart k n) rs g))
-    (started-spelled rs id name (rest (PutStart k n) rs g))
+    (start-named k n (first (PutStart k n) rs g)) (started-spelled rs id name (rest (PutStart k n) rs g))
 started-spelled (PutDone k size ∷ rs) id name g h = started-spelled rs id name (rest (PutDone k size) rs g)
     (done-by k id name (started_as rs id) h)
 started-spelled (PutDoneIn k size profile ∷ rs) id name g h =
-    started-spelled rs id name (rest (PutDoneIn k size profile) rs g)
-    (done-by k id name (started_as rs id) h)
+    started-spelled rs id name (rest (PutDoneIn k size profile) rs g) (done-by k id name (started_as rs id) h)
 started-spelled (r ∷ rs) id name g h = started-spelled rs id name (rest r rs g) h
 
 -- a file's record has a spelling
@@ -122,10 +117,9 @@ fits f = is_in_grammar (as_record f)
 fit : (id size profile : ℕ) (name : List ℕ) → nat_lt id (2 ^ 64) ≡ true → nat_le size largest_file ≡ true →
     nat_lt profile all_profiles ≡ true → is_name name ≡ true →
     is_in_grammar (InEffect id size profile name) ≡ true
-fit id size profile name i s p n =
-    and_from (nat_lt id (2 ^ 64) && nat_le size largest_file && nat_lt profile all_profiles) (is_name name)
-    (and_from (nat_lt id (2 ^ 64) && nat_le size largest_file) (nat_lt profile all_profiles)
-    (and_from (nat_lt id (2 ^ 64)) (nat_le size largest_file) i s) p) n
+fit id size profile name i s p n = and_from (nat_lt id (2 ^ 64) && nat_le size largest_file && nat_lt profile
+    all_profiles) (is_name name) (and_from (nat_lt id (2 ^ 64) && nat_le size largest_file)
+    (nat_lt profile all_profiles) (and_from (nat_lt id (2 ^ 64)) (nat_le size largest_file) i s) p) n
 
 -- each file in effect has a record with a spelling
 files-fit : (rs : List Record) → AreSpelled rs → list_all fits (files_of rs) ≡ true
@@ -144,10 +138,8 @@ files-fit (PutDoneIn id size profile ∷ rs) g =
     let parts = and_parts (nat_lt id (2 ^ 64)) (nat_le size largest_file) outer.0 in
     all-put fits (files_of rs) (started_as rs id) id size profile (files-fit rs others)
     (λ name e. fit id size profile name parts.0 parts.1 outer.1 (started-spelled rs id name others e))
-files-fit (InEffect id size profile kept ∷ rs) g =
-    all-put fits (files_of rs) (Some kept) id size profile
-    (files-fit rs (rest (InEffect id size profile kept) rs g))
-    (λ name e. (let same : kept ≡ name = cc in
+files-fit (InEffect id size profile kept ∷ rs) g = all-put fits (files_of rs) (Some kept) id size profile
+    (files-fit rs (rest (InEffect id size profile kept) rs g)) (λ name e. (let same : kept ≡ name = cc in
     subst (λ x. is_in_grammar (InEffect id size profile x) ≡ true) same
     (first (InEffect id size profile kept) rs g)))
 files-fit (r ∷ rs) g = files-fit rs (rest r rs g)
@@ -255,8 +247,7 @@ module _ (rs : List Record) (a : AreAccepted rs) (g : AreSpelled rs) where
 
       on_top : (o : Option Due) → due_of rs ≡ o → entries_size (with_due o with_all) ≤ 2 ^ 17
       on_top None e = (let f = all in omega (arith, f))
-      on_top (Some d) e =
-          (let f = all in let c = counts-short d.number d.counts (due-spelled rs d g e) in
+      on_top (Some d) e = (let f = all in let c = counts-short d.number d.counts (due-spelled rs d g e) in
           omega (arith, f, c))
 
   -- so its text fits in either area

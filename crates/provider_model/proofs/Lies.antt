@@ -14,11 +14,9 @@ step s d (x ∷ xs) (suc i) l = ap (λ (ys : List ℕ). nim_add x s ∷ ys) (ste
 
 -- one symbol more
 pub added_more : (s d v : ℕ) (xs ys : List ℕ) (i : ℕ) → i < length xs → ys ≡ front_added s i xs →
-    v ≡ nim_add (get_or ys i d) s →
-    set ys i v ≡ front_added s (i + 1) xs
-added_more s d v xs ys i l e sum =
-    subst (λ (zs : List ℕ). v ≡ nim_add (get_or zs i d) s → set zs i v ≡ front_added s (i + 1) xs)
-    (sym e) more sum
+    v ≡ nim_add (get_or ys i d) s → set ys i v ≡ front_added s (i + 1) xs
+added_more s d v xs ys i l e sum = subst
+    (λ (zs : List ℕ). v ≡ nim_add (get_or zs i d) s → set zs i v ≡ front_added s (i + 1) xs) (sym e) more sum
   where
     more : v ≡ nim_add (get_or (front_added s i xs) i d) s →
         set (front_added s i xs) i v ≡ front_added s (i + 1) xs

@@ -46,8 +46,7 @@ module _ {X : Type 0} (f : X → List ℕ) where
     -- one place has another value, and all others stay
     pub updated : (o s : ℕ) →
         seen h o s ≡ (if (o == object) && (s == stripe) then option_map f w else seen g o s)
-    updated o s =
-        ap (λ (x : Option X). option_map f x) (is (o, s))
+    updated o s = ap (λ (x : Option X). option_map f x) (is (o, s))
         ∙ ap (λ (b : Bool). option_map f (cond b w (g (o, s)))) (same_place object stripe o s)
         ∙ moved ((o == object) && (s == stripe)) w (g (o, s))
 
@@ -55,8 +54,7 @@ module _ {X : Type 0} (f : X → List ℕ) where
   pub set : (g h : ℕ × ℕ → Option X) (object stripe : ℕ) (w : X) (block : List ℕ) →
       ((q : ℕ × ℕ) → h q ≡ cond (is_at (place_cmp (object, stripe)) q) (Some w) (g q)) → f w ≡ block
       → seen h ≡ with_block object stripe block (seen g)
-  set g h object stripe w block is same =
-      λ i o s. (updated g h object stripe (Some w) is o s
+  set g h object stripe w block is same = λ i o s. (updated g h object stripe (Some w) is o s
       ∙ ap (λ (l : List ℕ). if (o == object) && (s == stripe) then Some l else seen g o s) same) i
 
   -- what the entries have at a place

@@ -45,10 +45,9 @@ module _ (of_all : (bytes : List ℕ) (end : End) (left was now : Option (List �
   pub ends-well : AnswersServe number old new end → (end.status ≡ 0) ⊎ (end.status ≡ 70)
   ends-well (AnswersServe.no_memory is same) = inr (ap (λ (e : Ending). e.status) is)
   ends-well (AnswersServe.too_few lacks is same) = absurd (omega (arith, handed, lacks))
-  ends-well (AnswersServe.served within S) = by-end S.how
-      (subst (λ had. HasServed S.how had new.source (provider_at old.providers number)
-      (provider_at new.providers number) old.sink new.sink) source S.served)
-      (λ is. reads (S.source.rose is)) (λ is. writes (S.sink.rose is)) S.status_is
+  ends-well (AnswersServe.served within S) = by-end S.how (subst (λ had. HasServed S.how had new.source
+      (provider_at old.providers number) (provider_at new.providers number) old.sink new.sink) source
+      S.served) (λ is. reads (S.source.rose is)) (λ is. writes (S.sink.rose is)) S.status_is
 
 -- ---- a removal
 
@@ -90,12 +89,7 @@ removal-answered frames held = AnswersServe.served (omega arith) (record {
   };
   source = never-rose Finished SourceFailed (λ is. cc);
   sink = never-rose Finished SinkFailed (λ is. cc);
-  only = record {
-    disk = refl;
-    disk_faults = refl;
-    handed = refl;
-    others = others;
-  };
+  only = record { disk = refl; disk_faults = refl; handed = refl; others = others };
 })
   where
     others : (k : ℕ) → (k ≡ 0 → ⊥) →

@@ -58,8 +58,7 @@ seen-at f xs k x there =
 
 seen-other : {X : Type 0} (f : X → Provider) (xs : List X) (p k : ℕ) (y : X) → k ≢ p →
     provider_at (map f (slice_set xs p y)) k ≡ provider_at (map f xs) k
-seen-other f xs p k y other =
-    ap (λ (o : Option Provider). unwrap_or o nobody)
+seen-other f xs p k y other = ap (λ (o : Option Provider). unwrap_or o nobody)
     (slice_get-map f (slice_set xs p y) k ∙ ap (option_map f) (get-set_other xs p k y other)
     ∙ sym (slice_get-map f xs k))
 
@@ -84,19 +83,17 @@ module _ {X : Type 0} (f : X → Provider) (ps : List X) (p : ℕ) (old new : X)
       end.at ≡ place_of how → (disk : Option Cells) (disk_faults : ℕ)
       → AnswersServe number (seen disk disk_faults (map f ps) left reads written writes)
       (seen disk disk_faults (map f (slice_set ps p new)) left' reads' written' writes') (served_ending end)
-  served-answers number same end status place disk disk_faults =
-      subst (λ (k : ℕ). AnswersServe k (seen disk disk_faults (map f ps) left reads written writes)
-      (seen disk disk_faults (map f (slice_set ps p new)) left' reads' written' writes')
-      (served_ending end)) same
-      (answers.served (omega (arith, length-map ps f, slice_get_within ps p old there)) (record {
+  served-answers number same end status place disk disk_faults = subst
+      (λ (k : ℕ). AnswersServe k (seen disk disk_faults (map f ps) left reads written writes)
+      (seen disk disk_faults (map f (slice_set ps p new)) left' reads' written' writes') (served_ending end))
+      same (answers.served (omega (arith, length-map ps f, slice_get_within ps p old there)) (record {
         how = how;
         status_is = status;
         place = place;
         heard = refl;
-        served = subst (λ (q : Provider). HasServed how left left'
-            (provider_at (map f ps) p) q written written') (sym after)
-            (subst (λ (q : Provider). HasServed how left left' q (f new) written written')
-            (sym before) done);
+        served = subst (λ (q : Provider). HasServed how left left' (provider_at (map f ps) p) q written
+            written') (sym after)
+            (subst (λ (q : Provider). HasServed how left left' q (f new) written written') (sym before) done);
         source = source;
         sink = sink;
         only = record {

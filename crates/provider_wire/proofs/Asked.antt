@@ -1,5 +1,5 @@
 -- The answer to a request over a link that tells what is behind it.
-use Rattle.provider_wire.proofs.Words.{◌≡◌, ◌≢◌, ℕ, ◌*◌, Bool, true, false, List, [], ◌∷◌, length, refl, sym, ap, subst, ◌∙◌, arith, ◌==◌, if◌then◌else◌, eqb-true, Goes, sized, length-bytes_of_symbols, Request, Store, Fetch, Ask, Remove, SpellsRequest, Reply, Done, Found, Missing, Failed, NoMemory, AnswersRequest, reply_bytes, Behind, Sends, provider_behind, AskedFor, answer_size, first_byte_of, tail_of}
+use Rattle.provider_wire.proofs.Words.{◌≡◌, ◌≢◌, ℕ, ◌*◌, Bool, true, false, List, [], ◌∷◌, length, refl, sym, ap, ◌∙◌, arith, ◌==◌, if◌then◌else◌, eqb-true, Goes, sized, length-bytes_of_symbols, Request, Store, Fetch, Ask, Remove, SpellsRequest, Reply, Done, Found, Missing, Failed, NoMemory, AnswersRequest, reply_bytes, Behind, Sends, provider_behind, AskedFor, answer_size, first_byte_of, tail_of}
 use Rattle.std.proofs.Common.{Option, Some, None}
 
 -- an answer is its first byte and the bytes behind it
@@ -11,11 +11,8 @@ parts_of Failed = refl
 parts_of NoMemory = refl
 
 no_tail : (a : Reply) → first_byte_of a ≢ 1 → tail_of a ≡ []
-no_tail Done other = refl
 no_tail (Found symbols) other = absurd (other refl)
-no_tail Missing other = refl
-no_tail Failed other = refl
-no_tail NoMemory other = refl
+no_tail _ other = refl
 
 -- what a block of a wanted size gives has that many symbols
 pub sized-length : (size : ℕ) (block : Option (List ℕ)) (symbols : List ℕ) → Some symbols ≡ sized size block →
@@ -61,8 +58,7 @@ sent_to : (bytes : List ℕ) (old now : Option Behind) (b : Behind) → Goes (Se
     old ≡ Some b → (mid : Behind) × (now ≡ Some mid) × Sends bytes b mid
 sent_to bytes None now b g e = absurd cc
 sent_to bytes (Some x) None b g e = absurd g
-sent_to bytes (Some x) (Some m) b g e =
-    (m, refl, subst (λ (y : Behind). Sends bytes y m) (let h : x ≡ b = cc in h) g)
+sent_to bytes (Some x) (Some m) b g e = (m, refl, (rw (let h : x ≡ b = cc in h) at g))
 
 -- a request was sent, and its answer received
 pub asked_for : (bytes tail : List ℕ) (old mid now : Option Behind) (result : Option ℕ) (size : ℕ) →

@@ -21,29 +21,24 @@ chosen_grows false false x y z u v e f g = e
 misses-grows : (place low high : ℕ) (bytes more : List ℕ) → misses place low high bytes ≡ true →
     misses place low high (bytes ++ more) ≡ true
 misses-grows place low high bytes more e =
-    let there : place < length bytes = grind (arith, nat_tests, e) in
-    let same : get_or (bytes ++ more) place 0 ≡ get_or bytes place 0 =
-    get_or_append_left bytes more 0 place there in
-    and_grows _ _ _ _ e (λ _. grind (arith, nat_tests, there, length-append bytes more))
-    (λ out. ap (λ (n : ℕ). not (is_within low high n)) same ∙ out)
+    let there : place < length bytes = grind arith in
+    and_grows _ _ _ _ e (λ _. grind (arith, length-append bytes more))
+    (λ out. ap (λ n. not (is_within low high n)) (get_or_append_left bytes more 0 place there) ∙ out)
 
 number_misses-grows : (place low high : ℕ) (bytes more : List ℕ) → number_misses place low high bytes ≡ true →
     number_misses place low high (bytes ++ more) ≡ true
 number_misses-grows place low high bytes more e =
-    let there : place + 8 ≤ length bytes = grind (arith, nat_tests, e) in
-    let same : take 8 (drop place (bytes ++ more)) ≡ take 8 (drop place bytes) =
-    ap (take 8) (drop-append-le place bytes more (omega (arith, there)))
-    ∙ take-append-le 8 (drop place bytes) more (omega (arith, there, length-drop place bytes)) in
-    and_grows _ _ _ _ e (λ _. grind (arith, nat_tests, there, length-append bytes more))
-    (λ out. ap (λ (l : List ℕ). not (is_within low high (from_le_bytes w64 l))) same ∙ out)
+    let there : place + 8 ≤ length bytes = grind arith in
+    and_grows _ _ _ _ e (λ _. grind (arith, length-append bytes more))
+    (λ out. ap (λ l. not (is_within low high (from_le_bytes w64 l))) (ap (take 8)
+    (drop-append-le place bytes more (omega (arith, there)))
+    ∙ take-append-le 8 (drop place bytes) more (omega (arith, there, length-drop place bytes))) ∙ out)
 
 -- bytes that are bad are so with more bytes behind them
 pub bad-grows : (bytes more : List ℕ) → is_bad_request bytes ≡ true → is_bad_request (bytes ++ more) ≡ true
 bad-grows [] more e = absurd cc
-bad-grows (kind ∷ rest) more e =
-    chosen_grows ((kind == 1) || (kind == 2)) (kind == 3) _ _ (not (kind == 4)) _ _ e
-    (misses-grows 12 1 128 rest more)
-    (λ out. or_grows _ _ _ _ out
+bad-grows (kind ∷ rest) more e = chosen_grows ((kind == 1) || (kind == 2)) (kind == 3) _ _ (not (kind == 4)) _
+    _ e (misses-grows 12 1 128 rest more) (λ out. or_grows _ _ _ _ out
     (λ first. or_grows _ _ _ _ first (number_misses-grows 40 1 (2 ^ 32) rest more)
     (misses-grows 48 1 128 rest more)) (misses-grows 49 1 64 rest more))
 

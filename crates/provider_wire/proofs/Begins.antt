@@ -1,5 +1,5 @@
 -- When the bytes at hand begin no request.
-use Rattle.provider_wire.proofs.Words.{◌≡◌, ℕ, suc, ◌*◌, ◌<◌, ◌≤◌, ◌^◌, true, false, List, [], ◌∷◌, length, take, drop, get_or, refl, sym, ap, subst, ◌∙◌, arith, length-drop, ◌⊎◌, inl, inr, Width, w32, w64, byte_len, from_le_bytes, drop-cons, le-ltb, cases_lt, or_parts, nat_tests, drop-drop, is_within, misses, number_misses, is_bad_request, request_bytes, SpellsNoRequest, ◌>>=◌, number_at, IsBytes, within_at, block_read_at, store_at, fetch_at, seed_at, rows_at, challenge_read_at, ask_at, remove_at, request_at}
+use Rattle.provider_wire.proofs.Words.{◌≡◌, ℕ, suc, ◌*◌, ◌<◌, ◌≤◌, ◌^◌, true, false, List, [], ◌∷◌, length, take, drop, get_or, refl, ap, ◌∙◌, arith, length-drop, ◌⊎◌, inl, inr, Width, w32, w64, byte_len, from_le_bytes, drop-cons, le-ltb, cases_lt, or_parts, nat_tests, drop-drop, is_within, misses, number_misses, is_bad_request, request_bytes, SpellsNoRequest, ◌>>=◌, number_at, IsBytes, within_at, block_read_at, store_at, fetch_at, seed_at, rows_at, challenge_read_at, ask_at, remove_at, request_at}
 use Rattle.std.proofs.Common.{Option, Some}
 use Rattle.provider_wire.proofs.Takes.{request_takes}
 
@@ -34,8 +34,7 @@ rows_long bytes long e =
 seed_long : (bytes : List ℕ) → 40 ≤ length bytes →
     seed_at (drop 8 bytes) ≡ Some (take 32 (drop 8 bytes), drop 40 bytes)
 unfolding seed_at
-seed_long bytes long =
-    rw (le-ltb (length (drop 8 bytes)) 32 (omega (arith, length-drop 8 bytes)))
+seed_long bytes long = rw (le-ltb (length (drop 8 bytes)) 32 (omega (arith, length-drop 8 bytes)))
     (ap (λ (l : List ℕ). Some (take 32 (drop 8 bytes), l)) (drop-drop 32 8 bytes))
 
 -- something is found
@@ -51,12 +50,10 @@ block_long : (bytes : List ℕ) → 2061 ≤ length bytes → misses 12 1 128 by
 unfolding block_read_at
 block_long bytes long e =
     let n = get_or bytes 12 0 in
-    let good : is_within 1 128 n ≡ true = hits 12 1 128 bytes (omega arith) e in
-    let few : n ≤ 128 = grind (arith, nat_tests, good) in
-    let enough : 16 * n ≤ length (drop 13 bytes) = omega (arith, length-drop 13 bytes, few) in
+    let few : n ≤ 128 = grind (arith, nat_tests, hits 12 1 128 bytes (omega arith) e) in
     then_finds (within_at 1 128 (drop 12 bytes)) _ (n, drop 13 bytes)
     (within_long 12 1 128 bytes (omega arith) e)
-    (rw (le-ltb (length (drop 13 bytes)) (16 * n) enough) (_, refl))
+    (rw (le-ltb (length (drop 13 bytes)) (16 * n) (omega (arith, length-drop 13 bytes, few))) (_, refl))
 
 store_long : (bytes : List ℕ) → 2061 ≤ length bytes → misses 12 1 128 bytes ≡ false → Finds (store_at bytes)
 unfolding store_at
@@ -70,11 +67,9 @@ store_long bytes long e =
 
 fetch_long : (bytes : List ℕ) → 2061 ≤ length bytes → misses 12 1 128 bytes ≡ false → Finds (fetch_at bytes)
 unfolding fetch_at
-fetch_long bytes long e =
-    then_finds (number_at w64 bytes) _ _ (number_long w64 bytes (omega arith))
-    (then_finds (number_at w32 (drop 8 bytes)) _ _
-    (number_long w32 (drop 8 bytes) (omega (arith, length-drop 8 bytes)))
-    (then_finds (within_at 1 128 (drop 4 (drop 8 bytes))) _ _
+fetch_long bytes long e = then_finds (number_at w64 bytes) _ _ (number_long w64 bytes (omega arith))
+    (then_finds (number_at w32 (drop 8 bytes)) _ _ (number_long w32 (drop 8 bytes)
+    (omega (arith, length-drop 8 bytes))) (then_finds (within_at 1 128 (drop 4 (drop 8 bytes))) _ _
     (ap (within_at 1 128) (drop-drop 4 8 bytes) ∙ within_long 12 1 128 bytes (omega arith) e) (_, refl)))
 
 ask_long : (bytes : List ℕ) → 2061 ≤ length bytes → number_misses 40 1 (2 ^ 32) bytes ≡ false →
@@ -82,12 +77,11 @@ ask_long : (bytes : List ℕ) → 2061 ≤ length bytes → number_misses 40 1 (
 unfolding ask_at challenge_read_at
 ask_long bytes long rows size picks =
     then_finds (number_at w64 bytes) _ _ (number_long w64 bytes (omega arith))
-    (then_finds (challenge_read_at (drop 8 bytes)) _ _
-    (then_finds (seed_at (drop 8 bytes)) _ _ (seed_long bytes (omega arith))
-    (then_finds (rows_at (drop 40 bytes)) _ _ (rows_long bytes (omega arith) rows)
-    (then_finds (within_at 1 128 (drop 48 bytes)) _ _ (within_long 48 1 128 bytes (omega arith) size)
-    (then_finds (within_at 1 64 (drop 49 bytes)) _ _ (within_long 49 1 64 bytes (omega arith) picks)
-    (_, refl))))).1 (_, refl))
+    (then_finds (challenge_read_at (drop 8 bytes)) _ _ (then_finds (seed_at (drop 8 bytes)) _ _
+    (seed_long bytes (omega arith)) (then_finds (rows_at (drop 40 bytes)) _ _
+    (rows_long bytes (omega arith) rows) (then_finds (within_at 1 128 (drop 48 bytes)) _ _
+    (within_long 48 1 128 bytes (omega arith) size) (then_finds (within_at 1 64 (drop 49 bytes)) _ _
+    (within_long 49 1 64 bytes (omega arith) picks) (_, refl))))).1 (_, refl))
 
 remove_long : (bytes : List ℕ) → 2061 ≤ length bytes → Finds (remove_at bytes)
 unfolding remove_at
@@ -99,8 +93,7 @@ kinds kind rest e = grind (arith, nat_tests, e)
 
 of_kind : (kind k : ℕ) (rest : List ℕ) → (is_bad_request (k ∷ rest) ≡ false → Finds (request_at (k ∷ rest))) →
     kind ≡ k → is_bad_request (kind ∷ rest) ≡ false → Finds (request_at (kind ∷ rest))
-of_kind kind k rest here is e =
-    subst (λ (j : ℕ). is_bad_request (j ∷ rest) ≡ false → Finds (request_at (j ∷ rest))) (sym is) here e
+of_kind kind k rest here is e = (rw (← is) at here) e
 
 request_long : (bytes : List ℕ) → 2062 ≤ length bytes → is_bad_request bytes ≡ false →
     Finds (request_at bytes)

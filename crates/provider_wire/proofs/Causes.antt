@@ -1,5 +1,5 @@
 -- When a count of faults rose in a call, from what its parts did.
-use Rattle.provider_wire.proofs.Words.{◌≡◌, ◌≤◌, ℕ, Bool, true, false, refl, sym, ap, ◌∙◌, le_trans, IsErrOf, HasCause, WriteFault, ServeEnd, rose-before, end_after}
+use Rattle.provider_wire.proofs.Words.{◌≡◌, ◌≤◌, ℕ, refl, le_trans, IsErrOf, HasCause, WriteFault, ServeEnd, rose-before, end_after}
 use Rattle.std.specs.Prelude.{Ok, Err}
 use Rattle.stream_model.specs.declared.fault.WriteFault.TheVariants as write_fault
 use Rattle.provider_wire.specs.declared.end.ServeEnd.TheVariants as serve_end
@@ -14,24 +14,6 @@ last_part {a = a} {b = b} {c = c} kept last same = record {
   never_falls = le_trans kept last.never_falls;
   rose = λ fault. rose-before a b c kept last.never_falls (last.rose (same fault));
 }
-
--- whether a server says that its source failed
-abbrev is_source_fault : ServeEnd → Bool
-is_source_fault serve_end.SourceFault = true
-is_source_fault end = false
-
--- whether it says that its sink failed
-abbrev is_sink_fault : ServeEnd → Bool
-is_sink_fault serve_end.SinkFault = true
-is_sink_fault end = false
-
--- an end that is no fault of the source
-pub no_source_fault : (end : ServeEnd) → is_source_fault end ≡ false → end ≡ serve_end.SourceFault → ⊥
-no_source_fault end other is = cc (sym other ∙ ap is_source_fault is)
-
--- an end that is no fault of the sink
-pub no_sink_fault : (end : ServeEnd) → is_sink_fault end ≡ false → end ≡ serve_end.SinkFault → ⊥
-no_sink_fault end other is = cc (sym other ∙ ap is_sink_fault is)
 
 -- what a server says after a write is no fault of its source
 pub after_is_no_source_fault : (fault : WriteFault) (end : ServeEnd) → end ≡ end_after fault

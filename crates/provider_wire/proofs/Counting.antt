@@ -11,8 +11,7 @@ one_more_is n fits = grind (arith, nat_tests, fits)
 -- the call went well
 pub went : {result : Option ℕ} (k : ℕ) {was now : Bool} {F : Type 0} {before after : ℕ} →
     option_eq eqb result (Some k) ≡ true → (IsSome result → now ≡ was) → (was ≡ true → result ≡ None) →
-    (F → ⊥)
-    → after ≡ before → CountsFaults was now F before after
+    (F → ⊥) → after ≡ before → CountsFaults was now F before after
 went {result = None} k is kept out well same = absurd cc
 went {result = Some x} k is kept out well same = record {
   stays = λ e. absurd (let h = out e in cc h);
@@ -43,5 +42,4 @@ answer_came {result = Some x} k is none = λ rose. absurd (let h = none rose in 
 pub call_failed : {result : Option ℕ} {before after : ℕ} {broken : Bool} {F : Type 0} → F →
     broken ≡ not (option_eq eqb result (Some 2)) → (before < after → result ≡ None)
     → TellsLinkFault before after broken F
-call_failed failed is none =
-    λ rose. (failed, is ∙ ap (λ (o : Option ℕ). not (option_eq eqb o (Some 2))) (none rose))
+call_failed failed is none = λ rose. (failed, is ∙ ap (λ o. not (option_eq eqb o (Some 2))) (none rose))

@@ -12,16 +12,13 @@ within low high n above below = grind (arith, nat_tests)
 
 -- the bytes of a store, put together piece by piece, spell it
 pub store_spelled : (object stripe : ℕ) (block p q r : List ℕ) → object < 2 ^ 64 → stripe < 2 ^ 32 →
-    1 ≤ length block → length block ≤ 128 → All (λ x. x < 2 ^ 128) block
-    → p ≡ 1 ∷ place_bytes object stripe → q ≡ p ++ length block ∷ [] → r ≡ q ++ bytes_of_symbols block →
-    SpellsRequest r (Store object stripe block)
+    1 ≤ length block → length block ≤ 128 → All (λ x. x < 2 ^ 128) block → p ≡ 1 ∷ place_bytes object stripe →
+    q ≡ p ++ length block ∷ [] → r ≡ q ++ bytes_of_symbols block → SpellsRequest r (Store object stripe block)
 unfolding request_bytes
 store_spelled object stripe block p q r object_fits stripe_fits some few small p_is q_is r_is = record {
-  is_request = (λ i. lt-ltb object (2 ^ 64) object_fits i && lt-ltb stripe
-      (2 ^ 32) stripe_fits i && (within 1 128 (length block) some few i && all_below
-      (2 ^ 128) block small i));
-  bytes_are = r_is ∙ ap (λ (l : List ℕ). l ++ bytes_of_symbols block)
-      (q_is ∙ ap (λ (l : List ℕ). l ++ length block ∷ []) p_is)
+  is_request = (λ i. lt-ltb object (2 ^ 64) object_fits i && lt-ltb stripe (2 ^ 32) stripe_fits i &&
+      (within 1 128 (length block) some few i && all_below (2 ^ 128) block small i));
+  bytes_are = r_is ∙ ap (λ l. l ++ bytes_of_symbols block) (q_is ∙ ap (λ l. l ++ length block ∷ []) p_is)
       ∙ append_assoc (1 ∷ place_bytes object stripe) (length block ∷ []) (bytes_of_symbols block);
 }
 
@@ -47,9 +44,8 @@ ask_spelled object c p q r s rows object_fits long bytes r1 r2 s1 s2 p1 p2 p_is 
     let tail = c.size ∷ c.picks ∷ [] in
     let len : (length c.seed == 32) ≡ true = grind (arith, nat_tests, long) in
     record {
-      is_request = (λ i. lt-ltb object (2 ^ 64) object_fits
-          i && (len i && all_below 256 c.seed bytes i && within 1
-          (2 ^ 32) c.rows r1 r2 i && within 1 128 c.size s1 s2 i && within 1 64 c.picks p1 p2 i));
+      is_request = (λ i. lt-ltb object (2 ^ 64) object_fits i && (len i && all_below 256 c.seed bytes i &&
+          within 1 (2 ^ 32) c.rows r1 r2 i && within 1 128 c.size s1 s2 i && within 1 64 c.picks p1 p2 i));
       bytes_are = s_is
           ∙ ap (λ (l : List ℕ). l ++ tail)
           (r_is ∙ (λ i. (q_is ∙ ap (λ (l : List ℕ). l ++ c.seed) p_is) i ++ rows_is i))

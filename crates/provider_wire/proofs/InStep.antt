@@ -13,18 +13,16 @@ idle b (Some x) false e is = (refl, ap (λ (y : Behind). y.due) (let h : b ≡ x
 pub answered : (old now : Option Behind) (broken : Bool) (r : Request) (result : Option ℕ) (tail : List ℕ) →
     ((b : Behind) → old ≡ Some b → AskedFor r result tail b now) → (old ≡ None → now ≡ None)
     → broken ≡ false → out_of_step now broken ≡ []
-answered None now broken r result tail told untold is =
-    ap (λ (o : Option Behind). out_of_step o broken) (untold refl)
+answered None now broken r result tail told untold is = ap (λ o. out_of_step o broken) (untold refl)
 answered (Some b) now broken r result tail told untold is =
     let a = told b refl in
-    ap (λ (o : Option Behind). out_of_step o broken) a.now_is
-    ∙ ap (λ (t : Bool). out_of_step (Some a.new) t) is ∙ a.nothing_due
+    ap (λ o. out_of_step o broken) a.now_is
+    ∙ ap (λ t. out_of_step (Some a.new) t) is ∙ a.nothing_due
 
 -- none came
 pub unanswered : (old now : Option Behind) (broken : Bool) (r : Request) (result : Option ℕ) (tail : List ℕ) →
     ((b : Behind) → old ≡ Some b → AskedFor r result tail b now) → (old ≡ None → now ≡ None)
     → result ≡ None → out_of_step now broken ≡ []
-unanswered None now broken r result tail told untold is =
-    ap (λ (o : Option Behind). out_of_step o broken) (untold refl)
+unanswered None now broken r result tail told untold is = ap (λ o. out_of_step o broken) (untold refl)
 unanswered (Some b) now broken r result tail told untold is =
-    absurd (let k = (told b refl).kind in let none = sym is ∙ k in cc none)
+    absurd (let k = (told b refl).kind in cc (sym is ∙ k))

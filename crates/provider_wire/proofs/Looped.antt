@@ -1,5 +1,5 @@
 -- What a link to a provider in the same program tells.
-use Rattle.provider_wire.proofs.Words.{◌≡◌, ℕ, ◌<◌, List, [], ◌∷◌, length, is_some, sym, ap, subst, ◌∙◌, arith, option_map, append-nil, is_some-option_map, Goes, Held, Provider, LosesPart, is_some-goes, Request, Store, Fetch, Ask, Remove, SpellsRequest, request_bytes, Reply, Done, Found, Missing, Failed, NoMemory, AnswersRequest, AnswersIn, Behind, Sends}
+use Rattle.provider_wire.proofs.Words.{◌≡◌, ℕ, ◌<◌, List, [], ◌∷◌, length, is_some, sym, ap, ◌∙◌, arith, option_map, append-nil, is_some-option_map, Goes, Held, Provider, LosesPart, is_some-goes, Request, Store, Fetch, Ask, Remove, SpellsRequest, request_bytes, Reply, Done, Found, Missing, Failed, NoMemory, AnswersRequest, AnswersIn, Behind, Sends}
 use Rattle.std.proofs.Common.{Option, Some, None}
 use Rattle.provider_wire.proofs.Takes.{one_front}
 
@@ -36,14 +36,13 @@ same_request bytes r q a b =
     ∙ b.bytes_are ∙ sym (append-nil (request_bytes q)))).0
 
 abbrev told : ℕ → ℕ → ℕ → List ℕ → Option Held → Option Behind
-told stores others fetches due held =
-    option_map (λ blocks. record {
-      held = blocks;
-      store_faults = stores;
-      other_faults = others;
-      fetches = fetches;
-      due = due;
-    }) held
+told stores others fetches due held = option_map (λ blocks. record {
+  held = blocks;
+  store_faults = stores;
+  other_faults = others;
+  fetches = fetches;
+  due = due;
+}) held
 
 abbrev seen : Option Held → ℕ → ℕ → ℕ → Provider
 seen held stores others fetches =
@@ -53,8 +52,7 @@ seen held stores others fetches =
 pub sent_busy : (held : Option Held) (s o f : ℕ) (due bytes : List ℕ) → 0 < length due →
     Goes (Sends bytes) (told s o f due held) (told s o f due held)
 sent_busy None s o f due bytes some = tt
-sent_busy (Some h) s o f due bytes some =
-    λ r is e. absurd (let none : length due ≡ 0 = ap length e in omega (arith, none, some))
+sent_busy (Some h) s o f due bytes some = λ r is e. absurd (omega (arith, ap length e, some))
 
 -- a send of a request
 pub sent_whole : (old new : Option Held) (s o f s' o' f' : ℕ) (due bytes answer : List ℕ) (r : Request) →
@@ -66,5 +64,4 @@ sent_whole None (Some h) s o f s' o' f' due bytes answer r spelled is =
 sent_whole (Some h) None s o f s' o' f' due bytes answer r spelled is =
     absurd (let e = still_told r is.0 _ _ is.1 in cc e)
 sent_whole (Some h) (Some k) s o f s' o' f' due bytes answer r spelled is =
-    λ q other e. subst (λ (x : Request). AnswersIn x (seen (Some h) s o f) answer (seen (Some k) s' o' f'))
-    (same_request bytes r q spelled other) is
+    λ q other e. (rw (same_request bytes r q spelled other) at is)

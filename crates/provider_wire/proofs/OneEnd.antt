@@ -44,12 +44,10 @@ one_parse : (rs ss : List Request) (x y : List ℕ) → list_all is_request rs �
     list_all is_request ss ≡ true → forward rs ++ x ≡ forward ss ++ y → SpellsNoRequest x →
     SpellsNoRequest y → (rs ≡ ss) × (x ≡ y)
 one_parse [] [] x y a b e p q = (refl, e)
-one_parse [] (s ∷ ss) x y a b e p q =
-    absurd (p s (request_bytes s) (forward ss ++ y)
+one_parse [] (s ∷ ss) x y a b e p q = absurd (p s (request_bytes s) (forward ss ++ y)
     (record { is_request = (and_parts _ _ b).0; bytes_are = refl })
     (e ∙ append_assoc (request_bytes s) (forward ss) y))
-one_parse (r ∷ rs) [] x y a b e p q =
-    absurd (q r (request_bytes r) (forward rs ++ x)
+one_parse (r ∷ rs) [] x y a b e p q = absurd (q r (request_bytes r) (forward rs ++ x)
     (record { is_request = (and_parts _ _ a).0; bytes_are = refl })
     (sym e ∙ append_assoc (request_bytes r) (forward rs) x))
 one_parse (r ∷ rs) (s ∷ ss) x y a b e p q =
@@ -70,18 +68,11 @@ one_text rs ss x y a b e p q =
 
 -- bytes are whole requests in one way
 pub one_frames : (bytes : List ℕ) (rs ss : List Request) → AreFrames bytes rs → AreFrames bytes ss → rs ≡ ss
-one_frames bytes rs ss a b =
-    (one_text rs ss [] [] a.are_requests b.are_requests
+one_frames bytes rs ss a b = (one_text rs ss [] [] a.are_requests b.are_requests
     (append-nil (requests_text rs) ∙ sym a.bytes_are ∙ b.bytes_are
     ∙ sym (append-nil (requests_text ss))) nothing_spells nothing_spells).0
 
 -- ---- one end
-
--- within the limit the bytes are these requests, and then what begins none
-record Cut (bytes : List ℕ) (rs : List Request) (rest : List ℕ) : Type 0 where
-  parts : take most_bytes bytes ≡ requests_text rs ++ rest
-  all : list_all is_request rs ≡ true
-  none : SpellsNoRequest rest
 
 -- what an end says of that rest
 abbrev Says : End → List Request → List ℕ → List ℕ → Type 0
@@ -93,10 +84,12 @@ Says SourceFailed rs rest bytes = ⊥
 Says SinkFailed rs rest bytes = ⊥
 Says OutOfMemory rs rest bytes = ⊥
 
--- an end, as what it says of the bytes within the limit
+-- within the limit the bytes are these requests, and then what begins none, of which the end says so much
 record Within (bytes : List ℕ) (end : End) (rs : List Request) : Type 0 where
   rest : List ℕ
-  cut : Cut bytes rs rest
+  parts : take most_bytes bytes ≡ requests_text rs ++ rest
+  all : list_all is_request rs ≡ true
+  none : SpellsNoRequest rest
   says : Says end rs rest bytes
 
 take_within : (rs : List Request) (rest bytes : List ℕ) → length (requests_text rs) ≤ most_bytes →
@@ -121,52 +114,39 @@ bad_within rs rest bad =
 within : (bytes : List ℕ) (end : End) (rs : List Request) → EndsOf bytes end rs → Within bytes end rs
 within bytes Finished rs x = record {
   rest = x.rest;
-  cut = record {
-    parts = take_all most_bytes bytes x.ends.1 ∙ x.parts;
-    all = x.are_requests;
-    none = subst SpellsNoRequest (sym x.ends.0) nothing_spells;
-  };
+  parts = take_all most_bytes bytes x.ends.1 ∙ x.parts;
+  all = x.are_requests;
+  none = subst SpellsNoRequest (sym x.ends.0) nothing_spells;
   says = x.ends;
 }
 within bytes (BadAt at) rs x =
     elim x.ends.1 [
       | inl bad ↦ record {
         rest = within_limit rs x.rest;
-        cut = record {
-          parts = take_within rs x.rest bytes (bad_within rs x.rest bad) x.parts;
-          all = x.are_requests;
-          none = bad-none (within_limit rs x.rest) bad;
-        };
+        parts = take_within rs x.rest bytes (bad_within rs x.rest bad) x.parts;
+        all = x.are_requests;
+        none = bad-none (within_limit rs x.rest) bad;
         says = (x.ends.0, inl bad);
       }
       | inr cut_off ↦ record {
         rest = x.rest;
-        cut = record {
-          parts = take_all most_bytes bytes cut_off.2 ∙ x.parts;
-          all = x.are_requests;
-          none = cut_off.1;
-        };
+        parts = take_all most_bytes bytes cut_off.2 ∙ x.parts;
+        all = x.are_requests;
+        none = cut_off.1;
         says = (x.ends.0, inr (cut_off.0, cut_off.2));
       }
     ]
 within bytes TooMany rs x = record {
   rest = within_limit rs x.rest;
-  cut = record {
-    parts = take_within rs x.rest bytes x.ends.within x.parts;
-    all = x.are_requests;
-    none = x.ends.none;
-  };
+  parts = take_within rs x.rest bytes x.ends.within x.parts;
+  all = x.are_requests;
+  none = x.ends.none;
   says = (x.ends.not_bad, x.ends.more);
 }
-within bytes SourceFailed rs x = absurd x.ends
-within bytes SinkFailed rs x = absurd x.ends
-within bytes OutOfMemory rs x = absurd x.ends
+within bytes _ rs x = absurd x.ends
 
 not_bad_yet : (rest : List ℕ) → rest ≡ [] → is_bad_request rest ≡ true → ⊥
 not_bad_yet rest none bad = let same : true ≡ false = sym bad ∙ ap is_bad_request none in absurd cc
-
-not_both : (rest : List ℕ) → is_bad_request rest ≡ true → is_bad_request rest ≡ false → ⊥
-not_both rest bad fine = let same : true ≡ false = sym bad ∙ fine in absurd cc
 
 same_end : (rs : List Request) (rest bytes : List ℕ) (e f : End) → Says e rs rest bytes →
     Says f rs rest bytes → e ≡ f
@@ -178,23 +158,15 @@ same_end rs rest bytes (BadAt at) Finished x y =
     elim x.1 [ inl bad ↦ absurd (not_bad_yet rest y.0 bad) | inr off ↦ absurd (off.0 y.0) ]
 same_end rs rest bytes (BadAt at) (BadAt other) x y = ap BadAt (x.0 ∙ sym y.0)
 same_end rs rest bytes (BadAt at) TooMany x y =
-    elim x.1 [ inl bad ↦ absurd (not_both rest bad y.0) | inr off ↦ absurd (omega (arith, off.1, y.1)) ]
+    elim x.1 [ inl bad ↦ absurd (cc (sym bad ∙ y.0)) | inr off ↦ absurd (omega (arith, off.1, y.1)) ]
 same_end rs rest bytes TooMany Finished x y = absurd (omega (arith, x.1, y.1))
 same_end rs rest bytes TooMany (BadAt at) x y =
-    elim y.1 [ inl bad ↦ absurd (not_both rest bad x.0) | inr off ↦ absurd (omega (arith, off.1, x.1)) ]
+    elim y.1 [ inl bad ↦ absurd (cc (sym bad ∙ x.0)) | inr off ↦ absurd (omega (arith, off.1, x.1)) ]
 same_end rs rest bytes TooMany TooMany x y = refl
 same_end rs rest bytes SourceFailed f x y = absurd x
 same_end rs rest bytes SinkFailed f x y = absurd x
 same_end rs rest bytes OutOfMemory f x y = absurd x
-same_end rs rest bytes Finished SourceFailed x y = absurd y
-same_end rs rest bytes Finished SinkFailed x y = absurd y
-same_end rs rest bytes Finished OutOfMemory x y = absurd y
-same_end rs rest bytes (BadAt at) SourceFailed x y = absurd y
-same_end rs rest bytes (BadAt at) SinkFailed x y = absurd y
-same_end rs rest bytes (BadAt at) OutOfMemory x y = absurd y
-same_end rs rest bytes TooMany SourceFailed x y = absurd y
-same_end rs rest bytes TooMany SinkFailed x y = absurd y
-same_end rs rest bytes TooMany OutOfMemory x y = absurd y
+same_end rs rest bytes _ _ x y = absurd y
 
 -- bytes have one end and one list of requests
 pub one_end : (bytes : List ℕ) (e f : End) (rs ss : List Request) → EndsOf bytes e rs → EndsOf bytes f ss →
@@ -202,8 +174,8 @@ pub one_end : (bytes : List ℕ) (e f : End) (rs ss : List Request) → EndsOf b
 one_end bytes e f rs ss x y =
     let a = within bytes e rs x in
     let b = within bytes f ss y in
-    let same = one_text rs ss a.rest b.rest a.cut.all b.cut.all
-    (sym a.cut.parts ∙ b.cut.parts) a.cut.none b.cut.none in
+    let same = one_text rs ss a.rest b.rest a.all b.all
+    (sym a.parts ∙ b.parts) a.none b.none in
     let moved : Says f rs b.rest bytes = subst (λ (q : List Request). Says f q b.rest bytes)
     (sym same.0) b.says in (
       same_end rs a.rest bytes e f a.says (subst (λ (l : List ℕ). Says f rs l bytes) (sym same.1) moved),
@@ -217,11 +189,10 @@ grown_front : (n : ℕ) (xs ys : List ℕ) → (more : List ℕ) × (take n (xs 
 grown_front n xs ys =
     elim (cases_lt (length xs) n) [
       | inl less ↦ (
-          let k = n - length xs in
-          let sum : n ≡ length xs + k = omega arith in (
+          let k = n - length xs in (
             take k ys,
-            ap (λ (m : ℕ). take m (xs ++ ys)) sum ∙ take-append-add xs ys k
-                ∙ ap (λ (l : List ℕ). l ++ take k ys) (sym (take_all n xs (omega arith))),
+            ap (λ m. take m (xs ++ ys)) (omega arith) ∙ take-append-add xs ys k
+                ∙ ap (λ l. l ++ take k ys) (sym (take_all n xs (omega arith))),
           )
           )
       | inr fits ↦ ([], take-append-le n xs ys fits ∙ sym (append-nil (take n xs)))
@@ -239,8 +210,7 @@ module _ (bytes : List ℕ) (left was now : Option (List ℕ)) (old new : Provid
 
   parts_of : (end : End) (x : HasServed end (Some bytes) left old new was now) (more : List ℕ) →
       bytes ≡ x.read ++ more → bytes ≡ requests_text x.requests ++ (x.rest ++ more)
-  parts_of end x more e =
-      e ∙ ap (λ (l : List ℕ). l ++ more) (x.parts ∙ ap (λ (l : List ℕ). l ++ x.rest) x.frames.bytes_are)
+  parts_of end x more e = e ∙ ap (λ l. l ++ more) (x.parts ∙ ap (λ l. l ++ x.rest) x.frames.bytes_are)
       ∙ append_assoc (requests_text x.requests) x.rest more
 
   nothing_more : (more : List ℕ) → left ≡ Some more → IsAtEnd left → more ≡ []
@@ -312,6 +282,4 @@ module _ (bytes : List ℕ) (left was now : Option (List ℕ)) (old new : Provid
           not_bad = ap is_bad_request same ∙ x.ends.not_bad;
         };
       }
-  of_all_bytes SourceFailed x is = absurd is
-  of_all_bytes SinkFailed x is = absurd is
-  of_all_bytes OutOfMemory x is = absurd is
+  of_all_bytes _ x is = absurd is

@@ -12,99 +12,55 @@ use Rattle.provider_wire.proofs.Counting.{one_more_is}
 stored : (o s : ℕ) (block : List ℕ) (p q : Provider) (a : Reply) → AnswersRequest (Store o s block) p a q →
     1 ≡ first_byte_of a → Stores o s block p q
 stored o s block p q Done is one = is
-stored o s block p q (Found symbols) is one = absurd is
-stored o s block p q Missing is one = absurd is
 stored o s block p q Failed is one = absurd (omega (arith, one))
 stored o s block p q NoMemory is one = absurd (omega (arith, one))
+stored o s block p q _ is one = absurd is
 
-no_room : (o s : ℕ) (block : List ℕ) (p q : Provider) (a : Reply) → AnswersRequest (Store o s block) p a q →
-    3 ≡ first_byte_of a → FindsNoMemory p q
-no_room o s block p q Done is three = absurd (omega (arith, three))
-no_room o s block p q (Found symbols) is three = absurd is
-no_room o s block p q Missing is three = absurd is
-no_room o s block p q Failed is three = absurd (omega (arith, three))
-no_room o s block p q NoMemory is three = is
+is_no_memory : (a : Reply) → 3 ≡ first_byte_of a → a ≡ NoMemory
+is_no_memory NoMemory three = refl
+is_no_memory _ three = absurd (omega (arith, three))
 
-store_lost : (o s : ℕ) (block : List ℕ) (p q : Provider) (a : Reply) →
-    AnswersRequest (Store o s block) p a q → first_byte_of a ≢ 1 → first_byte_of a ≢ 3 →
-    (first_byte_of a ≡ 2) × FailsToStore p q
-store_lost o s block p q Done is one three = absurd (one refl)
-store_lost o s block p q (Found symbols) is one three = absurd is
-store_lost o s block p q Missing is one three = absurd is
-store_lost o s block p q Failed is one three = (refl, is)
-store_lost o s block p q NoMemory is one three = absurd (three refl)
+is_missing : (a : Reply) → 0 ≡ first_byte_of a → a ≡ Missing
+is_missing Missing zero_ = refl
+is_missing _ zero_ = absurd (omega (arith, zero_))
+
+-- the other answer that says that a call did not fail
+abbrev other_kind : Request → ℕ
+other_kind (Store o s block) = 3
+other_kind (Remove o) = 1
+other_kind r = 0
+
+is_lost : (r : Request) (p q : Provider) (a : Reply) → AnswersRequest r p a q → first_byte_of a ≢ 1 →
+    first_byte_of a ≢ other_kind r → (first_byte_of a ≡ 2) × AnswersRequest r p Failed q
+is_lost r p q Failed is one other = (refl, is)
+is_lost r p q Done is one other = absurd (one refl)
+is_lost r p q (Found symbols) is one other = absurd (one refl)
+is_lost (Store o s block) p q NoMemory is one other = absurd (other refl)
+is_lost (Fetch o s size) p q Missing is one other = absurd (other refl)
+is_lost (Ask o c) p q Missing is one other = absurd (other refl)
+is_lost _ p q _ is one other = absurd is
 
 removed : (o : ℕ) (p q : Provider) (a : Reply) → AnswersRequest (Remove o) p a q → 1 ≡ first_byte_of a →
     RemovesAll o p q
 removed o p q Done is one = is
-removed o p q (Found symbols) is one = absurd is
-removed o p q Missing is one = absurd is
-removed o p q Failed is one = absurd (omega (arith, one))
-removed o p q NoMemory is one = absurd is
-
-remove_lost : (o : ℕ) (p q : Provider) (a : Reply) → AnswersRequest (Remove o) p a q → first_byte_of a ≢ 1 →
-    (first_byte_of a ≡ 2) × FailsToRemove o p q
-remove_lost o p q Done is one = absurd (one refl)
-remove_lost o p q (Found symbols) is one = absurd is
-remove_lost o p q Missing is one = absurd is
-remove_lost o p q Failed is one = (refl, is)
-remove_lost o p q NoMemory is one = absurd is
+removed o p q Failed is one = absurd (omega arith)
+removed o p q _ is one = absurd is
 
 fetched : (o s size : ℕ) (p q : Provider) (a : Reply) → AnswersRequest (Fetch o s size) p a q →
     1 ≡ first_byte_of a → (symbols : List ℕ) × (tail_of a ≡ bytes_of_symbols symbols) ×
     FetchesAs size o s p (Some symbols) q
 fetched o s size p q (Found symbols) is one = (symbols, refl, is)
-fetched o s size p q Done is one = absurd is
 fetched o s size p q Missing is one = absurd (omega (arith, one))
 fetched o s size p q Failed is one = absurd (omega (arith, one))
-fetched o s size p q NoMemory is one = absurd is
-
-not_fetched : (o s size : ℕ) (p q : Provider) (a : Reply) → AnswersRequest (Fetch o s size) p a q →
-    0 ≡ first_byte_of a → FetchesAs size o s p None q
-not_fetched o s size p q (Found symbols) is zero_ = absurd (omega (arith, zero_))
-not_fetched o s size p q Done is zero_ = absurd is
-not_fetched o s size p q Missing is zero_ = is
-not_fetched o s size p q Failed is zero_ = absurd (omega (arith, zero_))
-not_fetched o s size p q NoMemory is zero_ = absurd is
-
-fetch_lost : (o s size : ℕ) (p q : Provider) (a : Reply) → AnswersRequest (Fetch o s size) p a q →
-    first_byte_of a ≢ 1 → first_byte_of a ≢ 0 → (first_byte_of a ≡ 2) × FailsToFetch p q
-fetch_lost o s size p q (Found symbols) is one zero_ = absurd (one refl)
-fetch_lost o s size p q Done is one zero_ = absurd is
-fetch_lost o s size p q Missing is one zero_ = absurd (zero_ refl)
-fetch_lost o s size p q Failed is one zero_ = (refl, is)
-fetch_lost o s size p q NoMemory is one zero_ = absurd is
+fetched o s size p q _ is one = absurd is
 
 answered : (o : ℕ) (c : Challenge) (p q : Provider) (a : Reply) → AnswersRequest (Ask o c) p a q →
     1 ≡ first_byte_of a → (symbol : ℕ) × (tail_of a ≡ bytes_of_symbols (symbol ∷ [])) ×
     AsksAs (honest_answer c) o p (Some symbol) q
-answered o c p q (Found []) is one = absurd is
 answered o c p q (Found (x ∷ [])) is one = (x, refl, is)
-answered o c p q (Found (x ∷ y ∷ more)) is one = absurd is
-answered o c p q Done is one = absurd is
 answered o c p q Missing is one = absurd (omega (arith, one))
 answered o c p q Failed is one = absurd (omega (arith, one))
-answered o c p q NoMemory is one = absurd is
-
-not_answered : (o : ℕ) (c : Challenge) (p q : Provider) (a : Reply) → AnswersRequest (Ask o c) p a q →
-    0 ≡ first_byte_of a → AsksAs (honest_answer c) o p None q
-not_answered o c p q (Found []) is zero_ = absurd is
-not_answered o c p q (Found (x ∷ [])) is zero_ = absurd (omega (arith, zero_))
-not_answered o c p q (Found (x ∷ y ∷ more)) is zero_ = absurd is
-not_answered o c p q Done is zero_ = absurd is
-not_answered o c p q Missing is zero_ = is
-not_answered o c p q Failed is zero_ = absurd (omega (arith, zero_))
-not_answered o c p q NoMemory is zero_ = absurd is
-
-ask_lost : (o : ℕ) (c : Challenge) (p q : Provider) (a : Reply) → AnswersRequest (Ask o c) p a q →
-    first_byte_of a ≢ 1 → first_byte_of a ≢ 0 → (first_byte_of a ≡ 2) × FailsToAnswer p q
-ask_lost o c p q (Found []) is one zero_ = absurd is
-ask_lost o c p q (Found (x ∷ [])) is one zero_ = absurd (one refl)
-ask_lost o c p q (Found (x ∷ y ∷ more)) is one zero_ = absurd is
-ask_lost o c p q Done is one zero_ = absurd is
-ask_lost o c p q Missing is one zero_ = absurd (zero_ refl)
-ask_lost o c p q Failed is one zero_ = (refl, is)
-ask_lost o c p q NoMemory is one zero_ = absurd is
+answered o c p q _ is one = absurd is
 
 -- ---- by the first byte that came
 
@@ -144,11 +100,10 @@ through : (r : Request) (old now : Option Behind) (result : Option ℕ) (tail : 
     → P (seen_behind None s o f) (seen_behind None s' o' f') →
     P (seen_behind old s o f) (seen_behind now s' o' f')
 through r None now result tail P s o f s' o' f' h at_told at_none =
-    subst (λ (w : Option Behind). P (seen_behind None s o f) (seen_behind w s' o' f'))
-    (sym (h.untold refl)) at_none
+    subst (λ w. P (seen_behind None s o f) (seen_behind w s' o' f')) (sym (h.untold refl)) at_none
 through r (Some b) now result tail P s o f s' o' f' h at_told at_none =
     let a = h.told b refl in
-    subst (λ (w : Option Behind). P (provider_behind b) (seen_behind w s' o' f')) (sym a.now_is)
+    subst (λ w. P (provider_behind b) (seen_behind w s' o' f')) (sym a.now_is)
     (at_told b a.new a.reply a.answered a.kind a.symbols)
 
 stepped : (r : Request) (old now : Option Behind) (result : Option ℕ) (tail : List ℕ) (broken : Bool)
@@ -163,67 +118,49 @@ stepped r (Some b) now result tail broken h mends =
     ∙ ap (λ (t : Bool). out_of_step (Some a.new) t) (mends b a.new a.reply a.answered a.kind) ∙ a.nothing_due
 
 not_lost : (result : Option ℕ) (n : ℕ) → result ≡ Some n → n ≡ 2 → not (option_eq eqb result (Some 2)) ≡ false
-not_lost result n is two =
-    ap (λ (o : Option ℕ). not (option_eq eqb o (Some 2))) (is ∙ ap (λ (k : ℕ). Some k) two)
+not_lost result n is two = ap (λ o. not (option_eq eqb o (Some 2))) (is ∙ ap (λ k. Some k) two)
+
+lost : (r : Request) (result : Option ℕ) → option_eq eqb result (Some 1) ≡ false →
+    option_eq eqb result (Some (other_kind r)) ≡ false → (p q : Provider) (a : Reply) →
+    AnswersRequest r p a q → result ≡ Some (first_byte_of a) →
+    (first_byte_of a ≡ 2) × AnswersRequest r p Failed q
+lost r result one other p q a is x = is_lost r p q a is (is_other result 1 (first_byte_of a) one x)
+    (is_other result (other_kind r) (first_byte_of a) other x)
 
 -- an answer of no wanted kind is that the call failed, which leaves the link in step
-module _ {result : Option ℕ} (one : option_eq eqb result (Some 1) ≡ false) where
-  module _ (object stripe : ℕ) (block : List ℕ) (three : option_eq eqb result (Some 3) ≡ false) where
-    lost_store : {p q : Provider} (a : Reply) → AnswersRequest (Store object stripe block) p a q →
-        result ≡ Some (first_byte_of a) → (first_byte_of a ≡ 2) × FailsToStore p q
-    lost_store a is x = store_lost object stripe block _ _ a is (is_other result 1 (first_byte_of a) one x)
-        (is_other result 3 (first_byte_of a) three x)
-
-  pub store_steps : {object stripe : ℕ} {block : List ℕ} → option_eq eqb result (Some 3) ≡ false →
-      {old now : Option Behind} {tail : List ℕ} → Heard (Store object stripe block) old now result tail →
-      out_of_step now (not (option_eq eqb result (Some 2))) ≡ []
-  store_steps three h = stepped _ _ _ result _ _ h
-      (λ b new a is x. not_lost result (first_byte_of a) x (lost_store _ _ _ three a is x).0)
-
-  module _ {object : ℕ} where
-    lost_remove : {p q : Provider} (a : Reply) → AnswersRequest (Remove object) p a q →
-        result ≡ Some (first_byte_of a) → (first_byte_of a ≡ 2) × FailsToRemove object p q
-    lost_remove a is x = remove_lost object _ _ a is (is_other result 1 (first_byte_of a) one x)
-
-    pub remove_steps : {old now : Option Behind} {tail : List ℕ} → Heard (Remove object) old now result tail →
-        out_of_step now (not (option_eq eqb result (Some 2))) ≡ []
-    remove_steps h = stepped _ _ _ result _ _ h
-        (λ b new a is x. not_lost result (first_byte_of a) x (lost_remove a is x).0)
-
-  module _ (object : ℕ) (c : Challenge) (none : option_eq eqb result (Some 0) ≡ false) where
-    lost_ask : {p q : Provider} (a : Reply) → AnswersRequest (Ask object c) p a q →
-        result ≡ Some (first_byte_of a) → (first_byte_of a ≡ 2) × FailsToAnswer p q
-    lost_ask a is x = ask_lost object c _ _ a is (is_other result 1 (first_byte_of a) one x)
-        (is_other result 0 (first_byte_of a) none x)
-
-  pub ask_steps : {object : ℕ} {c : Challenge} → option_eq eqb result (Some 0) ≡ false →
-      {old now : Option Behind} {tail : List ℕ} → Heard (Ask object c) old now result tail →
-      out_of_step now (not (option_eq eqb result (Some 2))) ≡ []
-  ask_steps none h = stepped _ _ _ result _ _ h
-      (λ b new a is x. not_lost result (first_byte_of a) x (lost_ask _ _ none a is x).0)
-
-  module _ (object stripe size : ℕ) (none : option_eq eqb result (Some 0) ≡ false) where
-    lost_fetch : {p q : Provider} (a : Reply) → AnswersRequest (Fetch object stripe size) p a q →
-        result ≡ Some (first_byte_of a) → (first_byte_of a ≡ 2) × FailsToFetch p q
-    lost_fetch a is x = fetch_lost object stripe size _ _ a is (is_other result 1 (first_byte_of a) one x)
-        (is_other result 0 (first_byte_of a) none x)
-
-  pub fetch_steps : {object stripe size : ℕ} → option_eq eqb result (Some 0) ≡ false →
-      {old now : Option Behind} {tail : List ℕ} → Heard (Fetch object stripe size) old now result tail →
-      out_of_step now (not (option_eq eqb result (Some 2))) ≡ []
-  fetch_steps none h = stepped _ _ _ result _ _ h
-      (λ b new a is x. not_lost result (first_byte_of a) x (lost_fetch _ _ _ none a is x).0)
+pub steps : {r : Request} {old now : Option Behind} {result : Option ℕ} {tail : List ℕ} →
+    Heard r old now result tail → option_eq eqb result (Some 1) ≡ false →
+    option_eq eqb result (Some (other_kind r)) ≡ false →
+    out_of_step now (not (option_eq eqb result (Some 2))) ≡ []
+steps {r = r} {result = result} h one other = stepped _ _ _ result _ _ h
+    (λ b new a is x. not_lost result (first_byte_of a) x (lost r result one other _ _ a is x).0)
 
 -- all that the calls over a link need to know of the answer that came
 module _ {old now : Option Behind} {result : Option ℕ} {tail : List ℕ} {s o f s' o' f' : ℕ} where
+  -- where the answer is of one kind
+  by_kind : (r : Request) (k : ℕ) (P : Provider → Provider → Type 0) → Heard r old now result tail →
+      option_eq eqb result (Some k) ≡ true →
+      ((p q : Provider) (a : Reply) → AnswersRequest r p a q → k ≡ first_byte_of a → P p q) →
+      P (seen_behind None s o f) (seen_behind None s' o' f') →
+      P (seen_behind old s o f) (seen_behind now s' o' f')
+  by_kind r k P h is told = through r old now result tail P s o f s' o' f' h
+      (λ b new a x l t. told _ _ a x (same_kind result k (first_byte_of a) is l))
+
+  -- where it is of no wanted kind
+  by_lost : (r : Request) (P : Provider → Provider → Type 0) → Heard r old now result tail →
+      option_eq eqb result (Some 1) ≡ false → option_eq eqb result (Some (other_kind r)) ≡ false →
+      ((p q : Provider) → AnswersRequest r p Failed q → P p q) →
+      P (seen_behind None s o f) (seen_behind None s' o' f') →
+      P (seen_behind old s o f) (seen_behind now s' o' f')
+  by_lost r P h one other told = through r old now result tail P s o f s' o' f' h
+      (λ b new a x k t. told _ _ (lost r result one other _ _ a x k).1)
+
   module _ {object stripe : ℕ} {block : List ℕ} (h : Heard (Store object stripe block) old now result tail) where
     -- a store that was answered as done stored the block
     pub store_done : option_eq eqb result (Some 1) ≡ true → s' ≡ s → o' ≡ o → f' ≡ f →
         Stores object stripe block (seen_behind old s o f) (seen_behind now s' o' f')
-    store_done one s_is o_is f_is =
-        through _ old now result tail (Stores object stripe block) s o f s' o' f' h
-        (λ b new a x k t. stored object stripe block _ _ a x (same_kind result 1 (first_byte_of a) one k))
-        (record {
+    store_done one s_is o_is f_is = by_kind (Store object stripe block) 1 (Stores object stripe block) h one
+        (stored object stripe block) (record {
           held = refl;
           counts = record { store_faults = omega (arith, s_is); other_faults = o_is; fetches = f_is };
         })
@@ -231,10 +168,8 @@ module _ {old now : Option Behind} {result : Option ℕ} {tail : List ℕ} {s o 
     -- a store that was answered with no memory found none
     pub store_no_room : option_eq eqb result (Some 3) ≡ true → s' ≡ s → o' ≡ o → f' ≡ f →
         FindsNoMemory (seen_behind old s o f) (seen_behind now s' o' f')
-    store_no_room three s_is o_is f_is =
-        through _ old now result tail FindsNoMemory s o f s' o' f' h
-        (λ b new a x k t. no_room object stripe block _ _ a x (same_kind result 3 (first_byte_of a) three k))
-        (record {
+    store_no_room three s_is o_is f_is = by_kind (Store object stripe block) 3 FindsNoMemory h three
+        (λ p q a x k. (rw (is_no_memory a k) at x)) (record {
           held = refl;
           counts = record { store_faults = omega (arith, s_is); other_faults = o_is; fetches = f_is };
           no_fault = s_is;
@@ -245,9 +180,7 @@ module _ {old now : Option Behind} {result : Option ℕ} {tail : List ℕ} {s o 
         s' ≡ min (s + 1) last_count → o' ≡ o → f' ≡ f → s < 2 ^ 64
         → FailsToStore (seen_behind old s o f) (seen_behind now s' o' f')
     store_failed one three s_is o_is f_is fits =
-        through _ old now result tail FailsToStore s o f s' o' f' h
-        (λ b new a x k t. (lost_store one object stripe block three a x k).1)
-        (record {
+        by_lost (Store object stripe block) FailsToStore h one three (λ p q x. x) (record {
           held = refl;
           counts = record { store_faults = omega (arith, s_is, fits); other_faults = o_is; fetches = f_is };
           cause = λ less. omega (arith, s_is, fits);
@@ -258,21 +191,16 @@ module _ {old now : Option Behind} {result : Option ℕ} {tail : List ℕ} {s o 
     pub remove_done : option_eq eqb result (Some 1) ≡ true → s' ≡ s → o' ≡ o → f' ≡ f →
         RemovesAll object (seen_behind old s o f) (seen_behind now s' o' f')
     remove_done one s_is o_is f_is =
-        through _ old now result tail (RemovesAll object) s o f s' o' f' h
-        (λ b new a x k t. removed object _ _ a x (same_kind result 1 (first_byte_of a) one k))
-        (record {
+        by_kind (Remove object) 1 (RemovesAll object) h one (removed object) (record {
           held = refl;
           counts = record { store_faults = s_is; other_faults = omega (arith, o_is); fetches = f_is };
         })
 
     -- a removal that was answered otherwise failed, and was counted
-    pub remove_failed : option_eq eqb result (Some 1) ≡ false →
-        s' ≡ s → o' ≡ min (o + 1) last_count → f' ≡ f → o < 2 ^ 64 →
-        FailsToRemove object (seen_behind old s o f) (seen_behind now s' o' f')
+    pub remove_failed : option_eq eqb result (Some 1) ≡ false → s' ≡ s → o' ≡ min (o + 1) last_count →
+        f' ≡ f → o < 2 ^ 64 → FailsToRemove object (seen_behind old s o f) (seen_behind now s' o' f')
     remove_failed one s_is o_is f_is fits =
-        through _ old now result tail (FailsToRemove object) s o f s' o' f' h
-        (λ b new a x k t. (lost_remove one a x k).1)
-        (record {
+        by_lost (Remove object) (FailsToRemove object) h one one (λ p q x. x) (record {
           held = tt;
           counts = record { store_faults = s_is; other_faults = omega (arith, o_is, fits); fetches = f_is };
           cause = λ less. omega (arith, o_is, fits);
@@ -283,20 +211,17 @@ module _ {old now : Option Behind} {result : Option ℕ} {tail : List ℕ} {s o 
     pub ask_done : (symbol : ℕ) → symbol ∷ [] ≡ symbols_read 1 tail → symbol < 2 ^ 128 →
         option_eq eqb result (Some 1) ≡ true → s' ≡ s → o' ≡ o → f' ≡ f →
         AsksAs (honest_answer c) object (seen_behind old s o f) (Some symbol) (seen_behind now s' o' f')
-    ask_done symbol read small one s_is o_is f_is =
-        through _ old now result tail (λ p q. AsksAs (honest_answer c) object p (Some symbol) q) s o f s' o' f' h
-        (λ b new a answers k t.
+    ask_done symbol read small one s_is o_is f_is = through _ old now result tail
+        (λ p q. AsksAs (honest_answer c) object p (Some symbol) q) s o f s' o' f' h (λ b new a answers k t.
         let kind = same_kind result 1 (first_byte_of a) one k in
         let x = answered object c _ _ a answers kind in
-        let fits : x.0 < 2 ^ 128 = x.2.symbol in
         let same : symbol ∷ [] ≡ x.0 ∷ [] = read ∙ ap (symbols_read 1) (t (sym kind) ∙ x.1)
-        ∙ symbols-bytes (x.0 ∷ []) (λ i. lt-ltb x.0 (2 ^ 128) fits i && true) in
+        ∙ symbols-bytes (x.0 ∷ []) (λ i. lt-ltb x.0 (2 ^ 128) x.2.symbol i && true) in
         let e : x.0 ≡ symbol = cc in
-        subst (λ (y : ℕ). AsksAs (honest_answer c) object (provider_behind b) (Some y) (provider_behind new))
-        e x.2)
+        (rw e at x.2))
         (record {
           held = refl;
-          counts = record { store_faults = s_is; other_faults = omega (arith, o_is); fetches = f_is };
+          counts = record { store_faults = s_is; other_faults = omega arith; fetches = f_is };
           gives = small;
           symbol = small;
         })
@@ -304,10 +229,9 @@ module _ {old now : Option Behind} {result : Option ℕ} {tail : List ℕ} {s o 
     -- an ask that was answered with nothing gives nothing
     pub ask_missing : option_eq eqb result (Some 0) ≡ true → s' ≡ s → o' ≡ o → f' ≡ f →
         AsksAs (honest_answer c) object (seen_behind old s o f) None (seen_behind now s' o' f')
-    ask_missing none s_is o_is f_is =
-        through _ old now result tail (λ p q. AsksAs (honest_answer c) object p None q) s o f s' o' f' h
-        (λ b new a x k t. not_answered object c _ _ a x (same_kind result 0 (first_byte_of a) none k))
-        (record {
+    ask_missing none s_is o_is f_is = by_kind (Ask object c) 0
+        (λ p q. AsksAs (honest_answer c) object p None q) h none
+        (λ p q a x k. (rw (is_missing a k) at x)) (record {
           held = refl;
           counts = record { store_faults = s_is; other_faults = omega (arith, o_is); fetches = f_is };
           gives = tt;
@@ -319,9 +243,7 @@ module _ {old now : Option Behind} {result : Option ℕ} {tail : List ℕ} {s o 
         s' ≡ s → o' ≡ min (o + 1) last_count → f' ≡ f → o < 2 ^ 64 →
         FailsToAnswer (seen_behind old s o f) (seen_behind now s' o' f')
     ask_failed one none s_is o_is f_is fits =
-        through _ old now result tail FailsToAnswer s o f s' o' f' h
-        (λ b new a x k t. (lost_ask one object c none a x k).1)
-        (record {
+        by_lost (Ask object c) FailsToAnswer h one none (λ p q x. x) (record {
           held = refl;
           counts = record { store_faults = s_is; other_faults = omega (arith, o_is, fits); fetches = f_is };
           cause = λ less. omega (arith, o_is, fits);
@@ -333,21 +255,19 @@ module _ {old now : Option Behind} {result : Option ℕ} {tail : List ℕ} {s o 
         All (λ symbol. symbol < 2 ^ 128) out → option_eq eqb result (Some 1) ≡ true → s' ≡ s → o' ≡ o →
         f' ≡ min (f + 1) last_count → f < 2 ^ 64
         → FetchesAs size object stripe (seen_behind old s o f) (Some out) (seen_behind now s' o' f')
-    fetch_done out read long small one s_is o_is f_is fits =
-        through _ old now result tail (λ p q. FetchesAs size object stripe p (Some out) q) s o f s' o' f' h
-        (λ b new a answers k t.
+    fetch_done out read long small one s_is o_is f_is fits = through _ old now result tail
+        (λ p q. FetchesAs size object stripe p (Some out) q) s o f s' o' f' h (λ b new a answers k t.
         let kind = same_kind result 1 (first_byte_of a) one k in
         let x = fetched object stripe size _ _ a answers kind in
-        let count : length x.0 ≡ size = sized-length size (b.held object stripe) x.0 x.2.gives in
-        let e : x.0 ≡ out = sym (symbols-bytes x.0 (all_below (2 ^ 128) x.0 x.2.symbols))
-        ∙ (λ i. symbols_read (count i) ((sym x.1 ∙ sym (t (sym kind))) i)) ∙ sym read in
-        subst (λ (y : List ℕ). FetchesAs size object stripe (provider_behind b) (Some y)
-        (provider_behind new)) e x.2)
+        let e = sym (symbols-bytes x.0 (all_below (2 ^ 128) x.0 x.2.symbols))
+        ∙ (λ i. symbols_read ((sized-length size (b.held object stripe) x.0 x.2.gives) i)
+        ((sym x.1 ∙ sym (t (sym kind))) i)) ∙ sym read in
+        (rw e at x.2))
         (record {
           held = refl;
           counts = record {
             store_faults = s_is;
-            other_faults = omega (arith, o_is);
+            other_faults = omega arith;
             fetches = f_is ∙ one_more_is f fits;
           };
           gives = record { size_is = long; symbols = small };
@@ -357,10 +277,9 @@ module _ {old now : Option Behind} {result : Option ℕ} {tail : List ℕ} {s o 
     -- a fetch that was answered with nothing gives nothing, and was counted
     pub fetch_missing : option_eq eqb result (Some 0) ≡ true → s' ≡ s → o' ≡ o → f' ≡ min (f + 1) last_count →
         f < 2 ^ 64 → FetchesAs size object stripe (seen_behind old s o f) None (seen_behind now s' o' f')
-    fetch_missing none s_is o_is f_is fits =
-        through _ old now result tail (λ p q. FetchesAs size object stripe p None q) s o f s' o' f' h
-        (λ b new a x k t. not_fetched object stripe size _ _ a x (same_kind result 0 (first_byte_of a) none k))
-        (record {
+    fetch_missing none s_is o_is f_is fits = by_kind (Fetch object stripe size) 0
+        (λ p q. FetchesAs size object stripe p None q) h none
+        (λ p q a x k. (rw (is_missing a k) at x)) (record {
           held = refl;
           counts = record {
             store_faults = s_is;
@@ -376,9 +295,7 @@ module _ {old now : Option Behind} {result : Option ℕ} {tail : List ℕ} {s o 
         s' ≡ s → o' ≡ min (o + 1) last_count → f' ≡ min (f + 1) last_count → o < 2 ^ 64 →
         f < 2 ^ 64 → FailsToFetch (seen_behind old s o f) (seen_behind now s' o' f')
     fetch_failed one none s_is o_is f_is fits f_fits =
-        through _ old now result tail FailsToFetch s o f s' o' f' h
-        (λ b new a x k t. (lost_fetch one object stripe size none a x k).1)
-        (record {
+        by_lost (Fetch object stripe size) FailsToFetch h one none (λ p q x. x) (record {
           held = refl;
           counts = record {
             store_faults = s_is;

@@ -1,5 +1,5 @@
 -- What is received over a link that tells what is behind it.
-use Rattle.provider_wire.proofs.Words.{◌≡◌, ℕ, ◌+◌, ◌≤◌, List, [], ◌∷◌, ◌++◌, length, take, refl, sym, ap, subst, ◌∙◌, append_assoc, arith, length-append, get_or, append-nil, Goes, Behind, Receives, provider_behind}
+use Rattle.provider_wire.proofs.Words.{◌≡◌, ℕ, ◌+◌, ◌≤◌, List, [], ◌∷◌, ◌++◌, length, take, refl, sym, ap, ◌∙◌, append_assoc, arith, length-append, get_or, append-nil, Goes, Behind, Receives, provider_behind}
 use Rattle.std.proofs.Common.{Option, Some, None}
 
 -- a provider behind a link is known by what is seen of it
@@ -25,8 +25,7 @@ pub step : (mid now : Option Behind) (n : ℕ) (part : List ℕ) → Goes (Recei
     mid ≡ Some x → (new : Behind) × (now ≡ Some new) × Receives n part x new
 step None now n part g x e = absurd cc
 step (Some m) None n part g x e = absurd g
-step (Some m) (Some k) n part g x e =
-    (k, refl, subst (λ (y : Behind). Receives n part y k) (let h : m ≡ x = cc in h) g)
+step (Some m) (Some k) n part g x e = (k, refl, (rw (let h : m ≡ x = cc in h) at g))
 
 -- some bytes more came
 pub advance : (first mid now : Option Behind) (out more part : List ℕ) (at n : ℕ) → SoFar first mid out at →
@@ -44,20 +43,18 @@ advance first mid now out more part at n so g same is = λ b e long.
 -- the first byte came
 pub first_byte : (due out tail rest : List ℕ) (kind : ℕ) → due ≡ kind ∷ tail → due ≡ out ++ rest →
     length out ≡ 1 → (get_or out 0 0 ≡ kind) × (rest ≡ tail)
-first_byte due [] tail rest kind is parts size = absurd (omega (arith, size))
 first_byte due (x ∷ []) tail rest kind is parts size =
-    let e : x ∷ rest ≡ kind ∷ tail = sym parts ∙ is in
-    (let h : x ≡ kind = cc in h, let h : rest ≡ tail = cc in h)
-first_byte due (x ∷ y ∷ out) tail rest kind is parts size = absurd (omega (arith, size))
+    let e = sym parts ∙ is in
+    (cc, cc)
+first_byte due _ tail rest kind is parts size = absurd (omega (arith, size))
 
 -- all of the bytes came
 pub all_came : (due out rest : List ℕ) → due ≡ out ++ rest → length due ≡ length out →
     (out ≡ due) × (rest ≡ [])
 all_came due out rest parts size =
-    let none : length rest ≡ 0 = omega (arith, ap length parts, length-append out rest, size) in
-    let empty = is_empty rest none in
-    (sym (append-nil out) ∙ ap (λ (l : List ℕ). out ++ l) (sym empty) ∙ sym parts, empty)
+    let empty = is_empty rest (omega (arith, ap length parts, length-append out rest, size)) in
+    (sym (append-nil out) ∙ ap (λ l. out ++ l) (sym empty) ∙ sym parts, empty)
   where
     is_empty : (l : List ℕ) → length l ≡ 0 → l ≡ []
     is_empty [] e = refl
-    is_empty (x ∷ l) e = absurd (omega (arith, e))
+    is_empty (x ∷ l) e = absurd (omega arith)

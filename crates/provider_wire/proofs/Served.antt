@@ -51,11 +51,10 @@ module _ (bytes : List ℕ) (at size : ℕ) (r : Request) (old mid new : Provide
   serves_part front = record {
     requests = r ∷ so_far.requests;
     replies = a.0 ∷ so_far.replies;
-    some = λ e. absurd (cc e);
+    some = λ e. (cc e);
     frames = frames_more;
     served = (mid, so_far.served, a.1);
-    written = subst (λ (w : Option (List ℕ)). TakesFront w now (reply_bytes a.0)) so_far.written
-        (subst (λ (l : List ℕ). TakesFront then_ now l) a.2 front);
+    written = rw so_far.written at (subst (λ (l : List ℕ). TakesFront then_ now l) a.2 front);
   }
 
 -- what is told of any fault
@@ -76,8 +75,7 @@ within_rest bytes at size within fits =
 
 -- behind a request fewer bytes are left
 pub nearer : (bytes : List ℕ) (at size : ℕ) → size ≤ length (take (length bytes - at) (drop at bytes)) →
-    0 < size
-    → length bytes - (at + size) < length bytes - at
+    0 < size → length bytes - (at + size) < length bytes - at
 nearer bytes at size fits some =
     omega (arith, fits, some, length-take (length bytes - at) (drop at bytes), length-drop at bytes)
 

@@ -5,9 +5,8 @@ use Rattle.hail_field.proofs.Bytes.{from_to, to_from}
 
 -- one symbol more was pushed
 pub pushed_more : (first mid now symbols piece : List ℕ) (i x : ℕ) → i < length symbols →
-    x ≡ get_or symbols i x → piece ≡ to_le_bytes w128 x →
-    mid ≡ first ++ bytes_of_symbols (take i symbols) → now ≡ mid ++ piece →
-    now ≡ first ++ bytes_of_symbols (take (i + 1) symbols)
+    x ≡ get_or symbols i x → piece ≡ to_le_bytes w128 x → mid ≡ first ++ bytes_of_symbols (take i symbols) →
+    now ≡ mid ++ piece → now ≡ first ++ bytes_of_symbols (take (i + 1) symbols)
 pushed_more first mid now symbols piece i x less is piece_is so_far more =
     more ∙ (λ k. so_far k ++ piece_is k)
     ∙ append_assoc first (bytes_of_symbols (take i symbols)) (to_le_bytes w128 x)
@@ -24,8 +23,7 @@ pub took_more : (bytes out : List ℕ) (k n symbol : ℕ) → k < length out →
     symbol ≡ from_le_bytes w128 (take n (drop (16 * k) bytes)) →
     take k out ≡ symbols_read k bytes → take (k + 1) (set out k symbol) ≡ symbols_read (k + 1) bytes
 unfolding symbols_read
-took_more bytes out k n symbol below wide e before =
-    take_more_set out k symbol below
+took_more bytes out k n symbol below wide e before = take_more_set out k symbol below
     ∙ (λ i. before i ++ (e ∙ ap (λ (m : ℕ). from_le_bytes w128 (take m (drop (16 * k) bytes))) wide) i ∷ [])
     ∙ ap (λ (m : ℕ). symbols_read m bytes) (sym (add-one k))
 
@@ -55,14 +53,12 @@ unfolding symbols_read
 bytes-symbols zero bytes long fits = refl
 bytes-symbols (suc n) bytes long fits =
     let part = take 16 (drop (16 * n) bytes) in
-    let size : length part ≡ 16 =
-    omega (arith, length-take 16 (drop (16 * n) bytes), length-drop (16 * n) bytes) in
-    let e : 16 * n + 16 ≡ 16 * suc n = omega arith in
     bytes_of_symbols-push (symbols_read n bytes) (from_le_bytes w128 part)
-    ∙ (λ i. bytes-symbols n bytes (omega arith) fits i ++ to_from part size
+    ∙ (λ i. bytes-symbols n bytes (omega arith) fits i ++ to_from part
+    (omega (arith, length-take 16 (drop (16 * n) bytes), length-drop (16 * n) bytes))
     (IsBytes-take 16 (drop (16 * n) bytes) (IsBytes-drop (16 * n) bytes fits)) i)
     ∙ sym (take-add (16 * n) 16 bytes)
-    ∙ ap (λ (m : ℕ). take m bytes) e
+    ∙ ap (λ m. take m bytes) (omega arith)
 
 -- as many symbols are read as were asked for
 pub length-symbols : (n : ℕ) (bytes : List ℕ) → length (symbols_read n bytes) ≡ n
@@ -82,18 +78,16 @@ symbols_small zero bytes fits = refl
 symbols_small (suc n) bytes fits =
     let part = take 16 (drop (16 * n) bytes) in
     let x = from_le_bytes w128 part in
-    let small : nat_lt x (2 ^ 128) ≡ true = lt-ltb _ _
-    (wide128.below part (IsBytes-take 16 (drop (16 * n) bytes) (IsBytes-drop (16 * n) bytes fits))) in
     list_all-append (λ symbol. nat_lt symbol (2 ^ 128)) (symbols_read n bytes) (x ∷ [])
-    ∙ (λ i. symbols_small n bytes fits i && (small i && true))
+    ∙ (λ i. symbols_small n bytes fits i && ((lt-ltb _ _
+    (wide128.below part (IsBytes-take 16 (drop (16 * n) bytes) (IsBytes-drop (16 * n) bytes fits)))) i && true))
 
 -- the bytes of symbols from one on
 bytes-split : (block : List ℕ) (k : ℕ) → k < length block →
     bytes_of_symbols block
     ≡ bytes_of_symbols (take k block) ++ (to_le_bytes w128 (get_or block k 0) ++ bytes_of_symbols
     (drop (suc k) block))
-bytes-split block k below =
-    ap bytes_of_symbols (sym (take-append-drop k block))
+bytes-split block k below = ap bytes_of_symbols (sym (take-append-drop k block))
     ∙ flat_map-append (to_le_bytes w128) (take k block) (drop k block)
     ∙ ap (λ (l : List ℕ). bytes_of_symbols (take k block) ++ bytes_of_symbols l) (drop-cons block k 0 below)
 
@@ -118,11 +112,10 @@ symbols-front block (suc k) within small =
     let a = bytes_of_symbols (take k block) in
     let behind = to_le_bytes w128 x ++ bytes_of_symbols (drop (suc k) block) in
     let below : k < length block = omega arith in
-    let part : take 16 (drop (16 * k) (bytes_of_symbols block)) ≡ to_le_bytes w128 x =
-    ap (λ (l : List ℕ). take 16 (drop (16 * k) l)) (bytes-split block k below)
+    (λ i. symbols-front block k (omega arith) small i ++ (ap (from_le_bytes w128)
+    (ap (λ (l : List ℕ). take 16 (drop (16 * k) l)) (bytes-split block k below)
     ∙ ap (take 16) (drop_at a behind (16 * k) (length-front block k (omega arith)))
-    ∙ take_at (to_le_bytes w128 x) (bytes_of_symbols (drop (suc k) block)) 16 refl in
-    (λ i. symbols-front block k (omega arith) small i ++ (ap (from_le_bytes w128) part
+    ∙ take_at (to_le_bytes w128 x) (bytes_of_symbols (drop (suc k) block)) 16 refl)
     ∙ from_to x (small_at block k below small)) i ∷ [])
     ∙ sym (take-suc block k 0 below)
 

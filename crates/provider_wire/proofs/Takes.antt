@@ -1,5 +1,5 @@
 -- What is read is spelled so, and what is spelled so is read.
-use Rattle.provider_wire.proofs.Words.{◌≡◌, ℕ, ◌*◌, ◌^◌, ◌<◌, ◌≤◌, Bool, true, false, cond, eqb, List, [], ◌∷◌, ◌++◌, length, take, drop, refl, sym, ap, subst, ◌∙◌, append_assoc, arith, length-append, length-take, take-append-drop, ⊎_elim, ◌&&◌, nat_lt, ◌==◌, w32, w64, to_le_bytes, list_all, eqb-true, ltb-false, le-ltb, lt-ltb, and_from, and_parts, nat_tests, take_at, drop_at, cond-cases, Challenge, bytes_of_symbols, length-bytes_of_symbols, Request, Store, Fetch, Ask, Remove, is_within, is_block, is_challenge, is_request, place_bytes, block_bytes, challenge_bytes, request_bytes, ◌>>=◌, number_at, IsBytes, IsBytes-rest, IsBytes-take, IsBytes-drop, bind_some, passed, stopped, some_is, Takes, Takes-then, wide32, wide64, number_takes, number_again, symbols_read, within_at, block_read_at, store_at, fetch_at, seed_at, rows_at, challenge_read_at, ask_at, remove_at, request_at}
+use Rattle.provider_wire.proofs.Words.{◌≡◌, ℕ, ◌*◌, ◌^◌, ◌<◌, ◌≤◌, Bool, true, false, cond, eqb, List, [], ◌∷◌, ◌++◌, length, take, drop, refl, sym, ap, subst, ◌∙◌, append_assoc, arith, length-append, length-take, take-append-drop, ⊎_elim, ◌&&◌, nat_lt, ◌==◌, w32, w64, to_le_bytes, list_all, eqb-true, ltb-false, le-ltb, lt-ltb, and_from, and_parts, nat_tests, take_at, drop_at, cond-cases, Challenge, bytes_of_symbols, length-bytes_of_symbols, Request, Store, Fetch, Ask, Remove, is_within, is_block, is_challenge, is_request, block_bytes, challenge_bytes, request_bytes, ◌>>=◌, number_at, IsBytes, IsBytes-rest, IsBytes-take, IsBytes-drop, bind_some, passed, stopped, some_is, Takes, Takes-then, wide32, wide64, number_takes, number_again, symbols_read, within_at, block_read_at, store_at, fetch_at, seed_at, rows_at, challenge_read_at, ask_at, remove_at, request_at}
 use Rattle.std.proofs.Common.{Option, Some, None}
 use Rattle.provider_wire.proofs.Symbols.{bytes-symbols, length-symbols, symbols_small, symbols-bytes}
 
@@ -31,9 +31,7 @@ block_takes : (bytes : List ℕ) (x : List ℕ × List ℕ) → IsBytes bytes �
     Takes bytes (block_bytes x.0) x.1 × (is_block x.0 ≡ true)
 unfolding block_read_at
 block_takes bytes x fits e =
-    let a = bind_some (within_at 1 128 bytes)
-    (λ size. cond (nat_lt (length size.1) (16 * size.0)) None
-    (Some (symbols_read size.0 (take (16 * size.0) size.1), drop (16 * size.0) size.1))) x e in
+    let a = bind_some (within_at 1 128 bytes) _ x e in
     let n = a.0.0 in
     let rest = a.0.1 in
     let first = within_takes 1 128 bytes a.0 fits a.1 in
@@ -84,45 +82,33 @@ store_takes : (rest : List ℕ) (x : Request × List ℕ) → IsBytes rest → s
     Found (1 ∷ rest) x
 unfolding store_at request_bytes
 store_takes rest x fits e =
-    let a = bind_some (number_at w64 rest)
-    (λ object. number_at w32 object.1 >>= λ stripe. block_read_at stripe.1 >>= λ block. Some
-    (Store object.0 stripe.0 block.0, block.1)) x e in
-    let b = bind_some (number_at w32 a.0.1)
-    (λ stripe. block_read_at stripe.1 >>= λ block. Some (Store a.0.0 stripe.0 block.0, block.1)) x a.2 in
-    let d = bind_some (block_read_at b.0.1) (λ block. Some (Store a.0.0 b.0.0 block.0, block.1)) x b.2 in
-    let made : Request × List ℕ = (Store a.0.0 b.0.0 d.0.0, d.0.1) in
+    let a = bind_some (number_at w64 rest) _ x e in
+    let b = bind_some (number_at w32 a.0.1) _ x a.2 in
+    let d = bind_some (block_read_at b.0.1) _ x b.2 in
     let first = number_takes w64 (2 ^ 64) wide64 rest a.0 fits a.1 in
     let second = number_takes w32 (2 ^ 32) wide32 a.0.1 b.0 first.0.rest_fits b.1 in
     let third = block_takes b.0.1 d.0 second.0.rest_fits d.1 in
-    let front = Takes-then rest (to_le_bytes w64 a.0.0) a.0.1
-    (to_le_bytes w32 b.0.0) b.0.1 first.0 second.0 in
-    let all = Takes-then rest (place_bytes a.0.0 b.0.0) b.0.1 (block_bytes d.0.0) d.0.1 front third.0 in
-    let good : is_request (Store a.0.0 b.0.0 d.0.0) ≡ true =
-    (λ i. lt-ltb _ _ first.1 i && lt-ltb _ _ second.1 i && third.1 i) in
-    subst (Found (1 ∷ rest)) (some_is made x d.2)
-    (record { parts = ap (λ (l : List ℕ). 1 ∷ l) all.parts; rest_fits = all.rest_fits }, good)
+    let all = Takes-then _ _ _ _ _ (Takes-then _ _ _ _ _ first.0 second.0) third.0 in
+    subst (Found (1 ∷ rest)) (some_is (Store a.0.0 b.0.0 d.0.0, d.0.1) x d.2) (
+      record { parts = ap (λ l. 1 ∷ l) all.parts; rest_fits = all.rest_fits },
+      (λ i. lt-ltb _ _ first.1 i && lt-ltb _ _ second.1 i && third.1 i),
+    )
 
 fetch_takes : (rest : List ℕ) (x : Request × List ℕ) → IsBytes rest → fetch_at rest ≡ Some x →
     Found (2 ∷ rest) x
 unfolding fetch_at request_bytes
 fetch_takes rest x fits e =
-    let a = bind_some (number_at w64 rest)
-    (λ object. number_at w32 object.1 >>= λ stripe. within_at 1 128 stripe.1 >>= λ size. Some
-    (Fetch object.0 stripe.0 size.0, size.1)) x e in
-    let b = bind_some (number_at w32 a.0.1)
-    (λ stripe. within_at 1 128 stripe.1 >>= λ size. Some (Fetch a.0.0 stripe.0 size.0, size.1)) x a.2 in
-    let d = bind_some (within_at 1 128 b.0.1) (λ size. Some (Fetch a.0.0 b.0.0 size.0, size.1)) x b.2 in
-    let made : Request × List ℕ = (Fetch a.0.0 b.0.0 d.0.0, d.0.1) in
+    let a = bind_some (number_at w64 rest) _ x e in
+    let b = bind_some (number_at w32 a.0.1) _ x a.2 in
+    let d = bind_some (within_at 1 128 b.0.1) _ x b.2 in
     let first = number_takes w64 (2 ^ 64) wide64 rest a.0 fits a.1 in
     let second = number_takes w32 (2 ^ 32) wide32 a.0.1 b.0 first.0.rest_fits b.1 in
     let third = within_takes 1 128 b.0.1 d.0 second.0.rest_fits d.1 in
-    let front = Takes-then rest (to_le_bytes w64 a.0.0) a.0.1
-    (to_le_bytes w32 b.0.0) b.0.1 first.0 second.0 in
-    let all = Takes-then rest (place_bytes a.0.0 b.0.0) b.0.1 (d.0.0 ∷ []) d.0.1 front third.0 in
-    let good : is_request (Fetch a.0.0 b.0.0 d.0.0) ≡ true =
-    (λ i. lt-ltb _ _ first.1 i && lt-ltb _ _ second.1 i && third.1 i) in
-    subst (Found (2 ∷ rest)) (some_is made x d.2)
-    (record { parts = ap (λ (l : List ℕ). 2 ∷ l) all.parts; rest_fits = all.rest_fits }, good)
+    let all = Takes-then _ _ _ _ _ (Takes-then _ _ _ _ _ first.0 second.0) third.0 in
+    subst (Found (2 ∷ rest)) (some_is (Fetch a.0.0 b.0.0 d.0.0, d.0.1) x d.2) (
+      record { parts = ap (λ l. 2 ∷ l) all.parts; rest_fits = all.rest_fits },
+      (λ i. lt-ltb _ _ first.1 i && lt-ltb _ _ second.1 i && third.1 i),
+    )
 
 -- ---- an ask and a removal
 
@@ -158,8 +144,7 @@ rows_takes : (bytes : List ℕ) (x : ℕ × List ℕ) → IsBytes bytes → rows
     Takes bytes (to_le_bytes w64 x.0) x.1 × (is_within 1 (2 ^ 32) x.0 ≡ true)
 unfolding rows_at
 rows_takes bytes x fits e =
-    let a = bind_some (number_at w64 bytes)
-    (λ rows. cond (is_within 1 (2 ^ 32) rows.0) (Some (rows.0, rows.1)) None) x e in
+    let a = bind_some (number_at w64 bytes) _ x e in
     let made : ℕ × List ℕ = (a.0.0, a.0.1) in
     let g = passed (is_within 1 (2 ^ 32) a.0.0) made x a.2 in
     let first = number_takes w64 (2 ^ 64) wide64 bytes a.0 fits a.1 in
@@ -170,35 +155,24 @@ rows_again : (rows : ℕ) (rest : List ℕ) → is_within 1 (2 ^ 32) rows ≡ tr
     rows_at (to_le_bytes w64 rows ++ rest) ≡ Some (rows, rest)
 unfolding rows_at
 rows_again rows rest good =
-    let small : rows < 2 ^ 64 = grind (arith, nat_tests, good) in
-    rw (number_again w64 (2 ^ 64) wide64 rows rest small, good) refl
+    rw (number_again w64 (2 ^ 64) wide64 rows rest (grind (arith, nat_tests, good)), good) refl
 
 challenge_takes : (bytes : List ℕ) (x : Challenge × List ℕ) → IsBytes bytes →
     challenge_read_at bytes ≡ Some x → Takes bytes (challenge_bytes x.0) x.1 × (is_challenge x.0 ≡ true)
 unfolding challenge_read_at
 challenge_takes bytes x fits e =
-    let a = bind_some (seed_at bytes)
-    (λ seed. rows_at seed.1 >>= λ rows. within_at 1 128 rows.1 >>= λ size. within_at 1 64 size.1 >>=
-    λ picks. Some (record { seed = seed.0; rows = rows.0; size = size.0; picks = picks.0 }, picks.1)) x
-    e in
-    let b = bind_some (rows_at a.0.1)
-    (λ rows. within_at 1 128 rows.1 >>= λ size. within_at 1 64 size.1 >>= λ picks. Some
-    (record { seed = a.0.0; rows = rows.0; size = size.0; picks = picks.0 }, picks.1)) x a.2 in
-    let d = bind_some (within_at 1 128 b.0.1)
-    (λ size. within_at 1 64 size.1 >>= λ picks. Some
-    (record { seed = a.0.0; rows = b.0.0; size = size.0; picks = picks.0 }, picks.1)) x b.2 in
-    let f = bind_some (within_at 1 64 d.0.1)
-    (λ picks. Some (record { seed = a.0.0; rows = b.0.0; size = d.0.0; picks = picks.0 }, picks.1)) x d.2 in
+    let a = bind_some (seed_at bytes) _ x e in
+    let b = bind_some (rows_at a.0.1) _ x a.2 in
+    let d = bind_some (within_at 1 128 b.0.1) _ x b.2 in
+    let f = bind_some (within_at 1 64 d.0.1) _ x d.2 in
     let c : Challenge = record { seed = a.0.0; rows = b.0.0; size = d.0.0; picks = f.0.0 } in
     let made : Challenge × List ℕ = (c, f.0.1) in
     let first = seed_takes bytes a.0 fits a.1 in
     let second = rows_takes a.0.1 b.0 first.0.rest_fits b.1 in
     let third = within_takes 1 128 b.0.1 d.0 second.0.rest_fits d.1 in
     let fourth = within_takes 1 64 d.0.1 f.0 third.0.rest_fits f.1 in
-    let tail = Takes-then b.0.1 (d.0.0 ∷ []) d.0.1 (f.0.0 ∷ []) f.0.1 third.0 fourth.0 in
-    let behind = Takes-then a.0.1 (to_le_bytes w64 b.0.0) b.0.1 (d.0.0 ∷ f.0.0 ∷ []) f.0.1 second.0 tail in
-    let all = Takes-then bytes a.0.0 a.0.1 (to_le_bytes w64 b.0.0 ++ d.0.0 ∷ f.0.0 ∷ []) f.0.1 first.0
-    behind in
+    let behind = Takes-then _ _ _ _ _ second.0 (Takes-then _ _ _ _ _ third.0 fourth.0) in
+    let all = Takes-then _ _ _ _ _ first.0 behind in
     let good : is_challenge c ≡ true = (λ i. first.1 i && second.1 i && third.1 i && fourth.1 i) in
     subst (λ (y : Challenge × List ℕ). Takes bytes (challenge_bytes y.0) y.1 × (is_challenge y.0 ≡ true))
     (some_is made x f.2) (all, good)
@@ -222,13 +196,12 @@ challenge_again c rest good =
 ask_takes : (rest : List ℕ) (x : Request × List ℕ) → IsBytes rest → ask_at rest ≡ Some x → Found (3 ∷ rest) x
 unfolding ask_at request_bytes
 ask_takes rest x fits e =
-    let a = bind_some (number_at w64 rest)
-    (λ object. challenge_read_at object.1 >>= λ c. Some (Ask object.0 c.0, c.1)) x e in
-    let b = bind_some (challenge_read_at a.0.1) (λ c. Some (Ask a.0.0 c.0, c.1)) x a.2 in
+    let a = bind_some (number_at w64 rest) _ x e in
+    let b = bind_some (challenge_read_at a.0.1) _ x a.2 in
     let made : Request × List ℕ = (Ask a.0.0 b.0.0, b.0.1) in
     let first = number_takes w64 (2 ^ 64) wide64 rest a.0 fits a.1 in
     let second = challenge_takes a.0.1 b.0 first.0.rest_fits b.1 in
-    let all = Takes-then rest (to_le_bytes w64 a.0.0) a.0.1 (challenge_bytes b.0.0) b.0.1 first.0 second.0 in
+    let all = Takes-then _ _ _ _ _ first.0 second.0 in
     subst (Found (3 ∷ rest)) (some_is made x b.2) (
       record { parts = ap (λ (l : List ℕ). 3 ∷ l) all.parts; rest_fits = all.rest_fits },
       (λ i. lt-ltb _ _ first.1 i && second.1 i),
@@ -238,11 +211,10 @@ remove_takes : (rest : List ℕ) (x : Request × List ℕ) → IsBytes rest → 
     Found (4 ∷ rest) x
 unfolding remove_at request_bytes
 remove_takes rest x fits e =
-    let a = bind_some (number_at w64 rest) (λ object. Some (Remove object.0, object.1)) x e in
-    let made : Request × List ℕ = (Remove a.0.0, a.0.1) in
+    let a = bind_some (number_at w64 rest) _ x e in
     let first = number_takes w64 (2 ^ 64) wide64 rest a.0 fits a.1 in
-    subst (Found (4 ∷ rest)) (some_is made x a.2) (
-      record { parts = ap (λ (l : List ℕ). 4 ∷ l) first.0.parts; rest_fits = first.0.rest_fits },
+    subst (Found (4 ∷ rest)) (some_is (Remove a.0.0, a.0.1) x a.2) (
+      record { parts = ap (λ l. 4 ∷ l) first.0.parts; rest_fits = first.0.rest_fits },
       lt-ltb _ _ first.1,
     )
 

@@ -9,17 +9,14 @@ pub part_length : (xs ys : List ℕ) (a k : ℕ) → length ys ≡ k → a + k �
     length (put_mid a k xs ys) ≡ length xs
 part_length xs ys a k size within =
     let rest = drop (a + k) xs in
-    let seam : put_mid a k xs ys ≡ (take a xs ++ ys) ++ rest =
-    sym (take-append-drop (a + k) (put_mid a k xs ys))
+    ap length (sym (take-append-drop (a + k) (put_mid a k xs ys))
     ∙ (λ i. take-put_mid a k xs ys (a + k) (omega (arith, size)) (omega arith) i ++ drop-put_mid a k xs ys
-    (a + k) (omega arith) (omega arith) size i) in
-    ap length seam ∙ omega (
+    (a + k) (omega arith) (omega arith) size i)) ∙ omega (
       arith,
       length-append (take a xs ++ ys) rest,
       length-append (take a xs) ys,
       length-take a xs,
       length-drop (a + k) xs,
-      size,
     )
 
 -- bytes that a source gave behind others
@@ -50,14 +47,12 @@ end_fits most within more_is = record { fits = omega arith }
 
 -- what came has room in the window
 pub filled_within : {len more n : ℕ} (most : ℕ) → len ≤ 65536 → more ≡ min most (65536 - len) →
-    n ≤ len + more - len
-    → len + n ≤ 65536
+    n ≤ len + more - len → len + n ≤ 65536
 filled_within most within more_is few = omega arith
 
 -- how many bytes there are then fits a number of 64 bits
 pub filled_fits : {len more n : ℕ} (most : ℕ) → len ≤ 65536 → more ≡ min most (65536 - len) →
-    n ≤ len + more - len
-    → Fits w64 (len + n)
+    n ≤ len + more - len → Fits w64 (len + n)
 filled_fits most within more_is few = record { fits = omega (arith, filled_within most within more_is few) }
 
 -- what a window has once bytes came behind others
@@ -73,8 +68,7 @@ filled-given len most bytes new now view_is seen_is more_is few given =
 
 -- where there was room and none came, the source is at its end
 pub filled-end : {most more n : ℕ} {view : List ℕ} {E : Type 0} (len : ℕ) (bytes : List ℕ) →
-    length bytes ≡ 65536 → len ≤ 65536
-    → take len bytes ≡ view → more ≡ min most (65536 - len) → (n ≡ 0 → len < len + more → E)
-    → n ≡ 0 → 0 < most → length view < 65536 → E
+    length bytes ≡ 65536 → len ≤ 65536 → take len bytes ≡ view → more ≡ min most (65536 - len) →
+    (n ≡ 0 → len < len + more → E) → n ≡ 0 → 0 < most → length view < 65536 → E
 filled-end len bytes size_is within view_is more_is end none some room =
     end none (omega (arith, length-take len bytes, ap length view_is))

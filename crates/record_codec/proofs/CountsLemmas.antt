@@ -136,10 +136,9 @@ padding n ks len = drop_at ks (drop n (replicate 16 0)) n len ∙ drop-replicate
 
 -- counts and zeros are sixteen numbers
 pub padded_room : (n : ℕ) (ks : List ℕ) → length ks ≡ n → n ≤ 16 → length (ks ++ drop n (replicate 16 0)) ≡ 16
-padded_room n ks len few =
-    omega (
-      arith,
-      length-append {A = ℕ} ks (drop n (replicate {A = ℕ} 16 0)),
-      ap (λ (l : List ℕ). length l) (drop-replicate {X = ℕ} n 16 0),
-      length-replicate {A = ℕ} (16 - n) 0,
-    )
+padded_room n ks len few = omega (
+  arith,
+  length-append {A = ℕ} ks (drop n (replicate {A = ℕ} 16 0)),
+  ap (λ (l : List ℕ). length l) (drop-replicate {X = ℕ} n 16 0),
+  length-replicate {A = ℕ} (16 - n) 0,
+)

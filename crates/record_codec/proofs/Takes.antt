@@ -1,11 +1,11 @@
 -- What is read is spelled so, and what is spelled so is read.
-use Rattle.record_codec.proofs.Words.{◌≡◌, ℕ, suc, ◌^◌, ◌<◌, ◌≤◌, true, false, cond, ltb, eqb, leb, List, [], ◌∷◌, ◌++◌, length, take, drop, Option, Some, None, refl, sym, ap, subst, ◌∙◌, append_assoc, arith, ⊎_elim, zero, Bool, w16, w32, w64, to_le_bytes, from_le_bytes, list_all, eqb-true, leb-true, ltb-false, le-ltb, lt-ltb, nat_tests, take_at, drop-front, Setup, SetUp, PutStart, PutDone, Drop, AuditStart, AuditDone, RepairDone, is_name, is_setup, is_master, is_byte, is_in_grammar, PutDoneIn, Version, Resume, InEffect, RepairDue, name_bytes, setup_bytes, counts_bytes, spelling, ◌>>=◌, number_at, name_at, counts_at, keyed_at, setup_at, put_start_at, put_done_at, audit_start_at, audit_done_at, repair_done_at, profile_at, object_at, put_done_in_at, version_at, resume_at, in_effect_at, repair_due_at, record_at}
+use Rattle.record_codec.proofs.Words.{◌≡◌, ℕ, suc, ◌^◌, ◌<◌, ◌≤◌, true, false, cond, ltb, eqb, leb, List, [], ◌∷◌, ◌++◌, length, take, drop, Option, Some, None, refl, sym, ap, subst, ◌∙◌, append_assoc, arith, ⊎_elim, zero, Bool, Width, w16, w32, w64, to_le_bytes, from_le_bytes, list_all, eqb-true, leb-true, ltb-false, le-ltb, lt-ltb, nat_tests, take_at, drop-front, Setup, SetUp, PutStart, PutDone, Drop, AuditStart, AuditDone, RepairDone, is_name, is_setup, is_master, is_byte, is_in_grammar, PutDoneIn, Version, Resume, InEffect, RepairDue, name_bytes, setup_bytes, counts_bytes, spelling, ◌>>=◌, number_at, name_at, counts_at, keyed_at, setup_at, put_start_at, put_done_at, audit_start_at, audit_done_at, repair_done_at, profile_at, object_at, put_done_in_at, version_at, resume_at, in_effect_at, repair_due_at, record_at}
 use Rattle.std.proofs.Common.{length-append, length-take, take-append-drop}
 use Rattle.std.specs.Prelude.{◌&&◌}
 use Rattle.algebra_laws.proofs.Options.{cond-cases}
 use Rattle.record_defs.specs.Records.{Record}
 use Rattle.record_codec.specs.Reading.{drop_at}
-use Rattle.record_codec.proofs.Fields.{IsBytes, IsBytes-rest, IsBytes-take, IsBytes-drop, bind_some, passed, passed_to, stopped, some_is, Takes, Takes-then, wide16, wide32, wide64, number_takes, number_again, name_takes, name_again}
+use Rattle.record_codec.proofs.Fields.{IsBytes, IsBytes-rest, IsBytes-take, IsBytes-drop, IsWide, bind_some, passed, passed_to, stopped, some_is, Takes, Takes-then, wide16, wide32, wide64, number_takes, number_again, name_takes, name_again}
 use Rattle.record_codec.proofs.CountsLemmas.{counts_takes, counts_again}
 
 abbrev Found : List ℕ → Record × List ℕ → Type 0
@@ -91,97 +91,73 @@ setup_again s rest good key =
 
 -- ---- the others
 
+-- a record behind its kind
+found : {text : List ℕ} (k : ℕ) (rest : List ℕ) (made x : Record × List ℕ) → Some made ≡ Some x →
+    spelling made.0 ≡ k ∷ text → Takes rest text made.1 → is_in_grammar made.0 ≡ true → Found (k ∷ rest) x
+found {text} k rest made x e spelled took good = subst (Found (k ∷ rest)) (some_is made x e) (
+  record {
+    parts = ap (λ (l : List ℕ). k ∷ l) took.parts ∙ ap (λ (l : List ℕ). l ++ made.1) (sym spelled);
+    rest_fits = took.rest_fits;
+  },
+  good,
+)
+
+-- a number that is read before others
+number_first : {B : Type 0} (w : Width) (limit : ℕ) (wide : IsWide w limit) (bytes : List ℕ)
+    (f : ℕ × List ℕ → Option B) (y : B) → IsBytes bytes → (number_at w bytes >>= f) ≡ Some y →
+    (x : ℕ × List ℕ) × (f x ≡ Some y) × Takes bytes (to_le_bytes w x.0) x.1 × (x.0 < limit)
+number_first w limit wide bytes f y fits e =
+    let a = bind_some (number_at w bytes) f y e in
+    let took = number_takes w limit wide bytes a.0 fits a.1 in (a.0, a.2, took.0, took.1)
+
 put_start_takes : (rest : List ℕ) (x : Record × List ℕ) → IsBytes rest → put_start_at rest ≡ Some x →
     Found (2 ∷ rest) x
 unfolding put_start_at spelling
 put_start_takes rest x fits e =
-    let a = bind_some (number_at w64 rest)
-    (λ id. name_at id.1 >>= λ name. Some (PutStart id.0 name.0, name.1)) x e in
-    let b = bind_some (name_at a.0.1) (λ name. Some (PutStart a.0.0 name.0, name.1)) x a.2 in
-    let made : Record × List ℕ = (PutStart a.0.0 b.0.0, b.0.1) in
-    let first = number_takes w64 (2 ^ 64) wide64 rest a.0 fits a.1 in
-    let second = name_takes a.0.1 b.0 first.0.rest_fits b.1 in
-    let both = Takes-then rest (to_le_bytes w64 a.0.0) a.0.1 (name_bytes b.0.0) b.0.1 first.0 second.0 in
-    subst (Found (2 ∷ rest)) (some_is made x b.2) (
-      record { parts = ap (λ (l : List ℕ). 2 ∷ l) both.parts; rest_fits = both.rest_fits },
-      (λ i. lt-ltb _ _ first.1 i && second.1 i),
-    )
+    let a = number_first w64 _ wide64 rest _ x fits e in
+    let b = bind_some (name_at a.0.1) _ x a.1 in
+    let name = name_takes a.0.1 b.0 a.2.rest_fits b.1 in
+    found 2 rest _ x b.2 refl (Takes-then _ _ _ _ _ a.2 name.0) (λ i. lt-ltb _ _ a.3 i && name.1 i)
 
 put_done_takes : (rest : List ℕ) (x : Record × List ℕ) → IsBytes rest → put_done_at rest ≡ Some x →
     Found (3 ∷ rest) x
 unfolding put_done_at spelling
 put_done_takes rest x fits e =
-    let a = bind_some (number_at w64 rest)
-    (λ id. number_at w32 id.1 >>= λ len. cond (leb len.0 4194304) (Some (PutDone id.0 len.0, len.1)) None) x
-    e in
-    let b = bind_some (number_at w32 a.0.1)
-    (λ len. cond (leb len.0 4194304) (Some (PutDone a.0.0 len.0, len.1)) None) x a.2 in
-    let made : Record × List ℕ = (PutDone a.0.0 b.0.0, b.0.1) in
-    let g = passed (leb b.0.0 4194304) made x b.2 in
-    let first = number_takes w64 (2 ^ 64) wide64 rest a.0 fits a.1 in
-    let second = number_takes w32 (2 ^ 32) wide32 a.0.1 b.0 first.0.rest_fits b.1 in
-    let both = Takes-then rest (to_le_bytes w64 a.0.0) a.0.1 (to_le_bytes w32 b.0.0) b.0.1 first.0 second.0 in
-    subst (Found (3 ∷ rest)) g.1 (
-      record { parts = ap (λ (l : List ℕ). 3 ∷ l) both.parts; rest_fits = both.rest_fits },
-      (λ i. lt-ltb _ _ first.1 i && g.0 i),
-    )
+    let a = number_first w64 _ wide64 rest _ x fits e in
+    let b = number_first w32 _ wide32 a.0.1 _ x a.2.rest_fits a.1 in
+    let g = passed_to (leb b.0.0 4194304) _ x b.1 in
+    found 3 rest _ x g.1 refl (Takes-then _ _ _ _ _ a.2 b.2) (λ i. lt-ltb _ _ a.3 i && g.0 i)
 
 drop_takes : (rest : List ℕ) (x : Record × List ℕ) → IsBytes rest → drop_at rest ≡ Some x → Found (4 ∷ rest) x
 unfolding drop_at spelling
 drop_takes rest x fits e =
-    let a = bind_some (name_at rest) (λ name. Some (Drop name.0, name.1)) x e in
-    let made : Record × List ℕ = (Drop a.0.0, a.0.1) in
-    let first = name_takes rest a.0 fits a.1 in
-    subst (Found (4 ∷ rest)) (some_is made x a.2)
-    (record { parts = ap (λ (l : List ℕ). 4 ∷ l) first.0.parts; rest_fits = first.0.rest_fits }, first.1)
+    let a = bind_some (name_at rest) _ x e in
+    let name = name_takes rest a.0 fits a.1 in found 4 rest _ x a.2 refl name.0 name.1
 
 audit_start_takes : (rest : List ℕ) (x : Record × List ℕ) → IsBytes rest → audit_start_at rest ≡ Some x →
     Found (5 ∷ rest) x
 unfolding audit_start_at spelling
 audit_start_takes rest x fits e =
-    let a = bind_some (number_at w64 rest) (λ number. Some (AuditStart number.0, number.1)) x e in
-    let made : Record × List ℕ = (AuditStart a.0.0, a.0.1) in
-    let first = number_takes w64 (2 ^ 64) wide64 rest a.0 fits a.1 in
-    subst (Found (5 ∷ rest)) (some_is made x a.2) (
-      record { parts = ap (λ (l : List ℕ). 5 ∷ l) first.0.parts; rest_fits = first.0.rest_fits },
-      lt-ltb _ _ first.1,
-    )
+    let a = number_first w64 _ wide64 rest _ x fits e in found 5 rest _ x a.1 refl a.2 (lt-ltb _ _ a.3)
 
 audit_done_takes : (rest : List ℕ) (x : Record × List ℕ) → IsBytes rest → audit_done_at rest ≡ Some x →
     Found (6 ∷ rest) x
 unfolding audit_done_at spelling
 audit_done_takes rest x fits e =
-    let a = bind_some (number_at w64 rest)
-    (λ number. number_at w32 number.1 >>= λ undecided. counts_at undecided.1 >>= λ counts. Some
-    (AuditDone number.0 undecided.0 counts.0, counts.1)) x e in
-    let b = bind_some (number_at w32 a.0.1)
-    (λ undecided. counts_at undecided.1 >>= λ counts. Some (AuditDone a.0.0 undecided.0 counts.0, counts.1)) x
-    a.2 in
-    let d = bind_some (counts_at b.0.1) (λ counts. Some (AuditDone a.0.0 b.0.0 counts.0, counts.1)) x b.2 in
-    let made : Record × List ℕ = (AuditDone a.0.0 b.0.0 d.0.0, d.0.1) in
-    let first = number_takes w64 (2 ^ 64) wide64 rest a.0 fits a.1 in
-    let second = number_takes w32 (2 ^ 32) wide32 a.0.1 b.0 first.0.rest_fits b.1 in
-    let third = counts_takes b.0.1 d.0 second.0.rest_fits d.1 in
-    let front = Takes-then rest (to_le_bytes w64 a.0.0) a.0.1
-    (to_le_bytes w32 b.0.0) b.0.1 first.0 second.0 in
-    let all = Takes-then rest (to_le_bytes w64 a.0.0 ++ to_le_bytes w32 b.0.0) b.0.1
-    (counts_bytes d.0.0) d.0.1 front third.0 in
+    let a = number_first w64 _ wide64 rest _ x fits e in
+    let b = number_first w32 _ wide32 a.0.1 _ x a.2.rest_fits a.1 in
+    let d = bind_some (counts_at b.0.1) _ x b.1 in
+    let counts = counts_takes b.0.1 d.0 b.2.rest_fits d.1 in
+    let front = Takes-then _ _ _ _ _ a.2 b.2 in
     let good : is_in_grammar (AuditDone a.0.0 b.0.0 d.0.0) ≡ true =
-    grind (arith, lt-ltb _ _ first.1, lt-ltb _ _ second.1, third.1, third.2) in
-    subst (Found (6 ∷ rest)) (some_is made x d.2)
-    (record { parts = ap (λ (l : List ℕ). 6 ∷ l) all.parts; rest_fits = all.rest_fits }, good)
+    grind (arith, lt-ltb _ _ a.3, lt-ltb _ _ b.3, counts.1, counts.2) in
+    found 6 rest _ x d.2 refl (Takes-then _ _ _ _ _ front counts.0) good
 
 repair_done_takes : (rest : List ℕ) (x : Record × List ℕ) → IsBytes rest → repair_done_at rest ≡ Some x →
     Found (7 ∷ rest) x
 unfolding repair_done_at spelling
 repair_done_takes rest x fits e =
-    let a = bind_some (number_at w64 rest) (λ number. Some (RepairDone number.0, number.1)) x e in
-    let made : Record × List ℕ = (RepairDone a.0.0, a.0.1) in
-    let first = number_takes w64 (2 ^ 64) wide64 rest a.0 fits a.1 in
-    subst (Found (7 ∷ rest)) (some_is made x a.2) (
-      record { parts = ap (λ (l : List ℕ). 7 ∷ l) first.0.parts; rest_fits = first.0.rest_fits },
-      lt-ltb _ _ first.1,
-    )
+    let a = number_first w64 _ wide64 rest _ x fits e in found 7 rest _ x a.1 refl a.2 (lt-ltb _ _ a.3)
 
 -- the bytes of an object's number, length and profile
 abbrev object_bytes : ℕ × ℕ × ℕ → List ℕ
@@ -203,24 +179,13 @@ object_takes : (bytes : List ℕ) (x : (ℕ × ℕ × ℕ) × List ℕ) → IsBy
     Takes bytes (object_bytes x.0) x.1 × (is_object x.0 ≡ true)
 unfolding object_at
 object_takes bytes x fits e =
-    let a = bind_some (number_at w64 bytes)
-    (λ id. number_at w32 id.1 >>= λ size. profile_at size.1 >>= λ profile. cond (leb size.0 4194304)
-    (Some ((id.0, size.0, profile.0), profile.1)) None) x e in
-    let b = bind_some (number_at w32 a.0.1)
-    (λ size. profile_at size.1 >>= λ profile. cond (leb size.0 4194304)
-    (Some ((a.0.0, size.0, profile.0), profile.1)) None) x a.2 in
-    let d = bind_some (profile_at b.0.1)
-    (λ profile. cond (leb b.0.0 4194304) (Some ((a.0.0, b.0.0, profile.0), profile.1)) None) x b.2 in
-    let made : (ℕ × ℕ × ℕ) × List ℕ = ((a.0.0, b.0.0, d.0.0), d.0.1) in
-    let g = passed (leb b.0.0 4194304) made x d.2 in
-    let first = number_takes w64 (2 ^ 64) wide64 bytes a.0 fits a.1 in
-    let second = number_takes w32 (2 ^ 32) wide32 a.0.1 b.0 first.0.rest_fits b.1 in
-    let third = profile_takes b.0.1 d.0 second.0.rest_fits d.1 in
-    let front = Takes-then bytes (to_le_bytes w64 a.0.0) a.0.1
-    (to_le_bytes w32 b.0.0) b.0.1 first.0 second.0 in
-    let all = Takes-then bytes (to_le_bytes w64 a.0.0 ++ to_le_bytes w32 b.0.0) b.0.1
-    (d.0.0 ∷ []) d.0.1 front third.0 in
-    let good : is_object (a.0.0, b.0.0, d.0.0) ≡ true = grind (arith, lt-ltb _ _ first.1, g.0, third.1) in
+    let a = number_first w64 _ wide64 bytes _ x fits e in
+    let b = number_first w32 _ wide32 a.0.1 _ x a.2.rest_fits a.1 in
+    let d = bind_some (profile_at b.0.1) _ x b.1 in
+    let g = passed (leb b.0.0 4194304) ((a.0.0, b.0.0, d.0.0), d.0.1) x d.2 in
+    let third = profile_takes b.0.1 d.0 b.2.rest_fits d.1 in
+    let all = Takes-then _ _ _ _ _ (Takes-then _ _ _ _ _ a.2 b.2) third.0 in
+    let good : is_object (a.0.0, b.0.0, d.0.0) ≡ true = grind (arith, lt-ltb _ _ a.3, g.0, third.1) in
     subst (λ (y : (ℕ × ℕ × ℕ) × List ℕ). Takes bytes (object_bytes y.0) y.1 × (is_object y.0 ≡ true)) g.1
     (all, good)
 
@@ -228,16 +193,11 @@ object_again : (id size profile : ℕ) (rest : List ℕ) → is_object (id, size
     object_at (object_bytes (id, size, profile) ++ rest) ≡ Some ((id, size, profile), rest)
 unfolding object_at profile_at
 object_again id size profile rest good =
-    let a = to_le_bytes w64 id in
-    let b = to_le_bytes w32 size in
     let id_fits : id < 2 ^ 64 = grind (arith, nat_tests, good) in
     let short : leb size 4194304 ≡ true = grind (arith, good) in
     let known : ltb profile 5 ≡ true = grind (arith, good) in
-    let regrouped : (a ++ b ++ profile ∷ []) ++ rest ≡ a ++ (b ++ (profile ∷ rest)) =
-    append_assoc (a ++ b) (profile ∷ []) rest ∙ append_assoc a b (profile ∷ rest) in
-    ap (λ (l : List ℕ). object_at l) regrouped
-    ∙ rw (
-      number_again w64 (2 ^ 64) wide64 id (b ++ (profile ∷ rest)) id_fits,
+    rw (
+      number_again w64 (2 ^ 64) wide64 id (to_le_bytes w32 size ++ (profile ∷ rest)) id_fits,
       number_again w32 (2 ^ 32) wide32 size (profile ∷ rest) (omega (arith, leb-true _ _ short)),
       known,
       short,
@@ -247,11 +207,8 @@ put_done_in_takes : (rest : List ℕ) (x : Record × List ℕ) → IsBytes rest 
     Found (8 ∷ rest) x
 unfolding put_done_in_at spelling
 put_done_in_takes rest x fits e =
-    let a = bind_some (object_at rest) (λ o. Some (PutDoneIn o.0.0 o.0.1 o.0.2, o.1)) x e in
-    let made : Record × List ℕ = (PutDoneIn a.0.0.0 a.0.0.1 a.0.0.2, a.0.1) in
-    let first = object_takes rest a.0 fits a.1 in
-    subst (Found (8 ∷ rest)) (some_is made x a.2)
-    (record { parts = ap (λ (l : List ℕ). 8 ∷ l) first.0.parts; rest_fits = first.0.rest_fits }, first.1)
+    let a = bind_some (object_at rest) _ x e in
+    let object = object_takes rest a.0 fits a.1 in found 8 rest _ x a.2 refl object.0 object.1
 
 version_takes : (rest : List ℕ) (x : Record × List ℕ) → IsBytes rest → version_at rest ≡ Some x →
     Found (9 ∷ rest) x
@@ -272,57 +229,30 @@ resume_takes : (rest : List ℕ) (x : Record × List ℕ) → IsBytes rest → r
     Found (10 ∷ rest) x
 unfolding resume_at spelling
 resume_takes rest x fits e =
-    let a = bind_some (number_at w64 rest)
-    (λ id. number_at w64 id.1 >>= λ audit. Some (Resume id.0 audit.0, audit.1)) x e in
-    let b = bind_some (number_at w64 a.0.1) (λ audit. Some (Resume a.0.0 audit.0, audit.1)) x a.2 in
-    let made : Record × List ℕ = (Resume a.0.0 b.0.0, b.0.1) in
-    let first = number_takes w64 (2 ^ 64) wide64 rest a.0 fits a.1 in
-    let second = number_takes w64 (2 ^ 64) wide64 a.0.1 b.0 first.0.rest_fits b.1 in
-    let both = Takes-then rest (to_le_bytes w64 a.0.0) a.0.1 (to_le_bytes w64 b.0.0) b.0.1 first.0 second.0 in
-    subst (Found (10 ∷ rest)) (some_is made x b.2) (
-      record { parts = ap (λ (l : List ℕ). 10 ∷ l) both.parts; rest_fits = both.rest_fits },
-      (λ i. lt-ltb _ _ first.1 i && lt-ltb _ _ second.1 i),
-    )
+    let a = number_first w64 _ wide64 rest _ x fits e in
+    let b = number_first w64 _ wide64 a.0.1 _ x a.2.rest_fits a.1 in
+    found 10 rest _ x b.1 refl (Takes-then _ _ _ _ _ a.2 b.2) (λ i. lt-ltb _ _ a.3 i && lt-ltb _ _ b.3 i)
 
 in_effect_takes : (rest : List ℕ) (x : Record × List ℕ) → IsBytes rest → in_effect_at rest ≡ Some x →
     Found (11 ∷ rest) x
 unfolding in_effect_at spelling
 in_effect_takes rest x fits e =
-    let a = bind_some (object_at rest)
-    (λ o. name_at o.1 >>= λ name. Some (InEffect o.0.0 o.0.1 o.0.2 name.0, name.1)) x e in
-    let b = bind_some (name_at a.0.1) (λ name. Some (InEffect a.0.0.0 a.0.0.1 a.0.0.2 name.0, name.1)) x
-    a.2 in
-    let made : Record × List ℕ = (InEffect a.0.0.0 a.0.0.1 a.0.0.2 b.0.0, b.0.1) in
-    let first = object_takes rest a.0 fits a.1 in
-    let second = name_takes a.0.1 b.0 first.0.rest_fits b.1 in
-    let both = Takes-then rest (object_bytes a.0.0) a.0.1 (name_bytes b.0.0) b.0.1 first.0 second.0 in
-    let grouped : object_bytes a.0.0 ++ name_bytes b.0.0
-    ≡ to_le_bytes w64 a.0.0.0 ++ to_le_bytes w32 a.0.0.1 ++ a.0.0.2 ∷ name_bytes b.0.0 =
-    append_assoc (to_le_bytes w64 a.0.0.0 ++ to_le_bytes w32 a.0.0.1) (a.0.0.2 ∷ []) (name_bytes b.0.0) in
-    let good : is_in_grammar (InEffect a.0.0.0 a.0.0.1 a.0.0.2 b.0.0) ≡ true = (λ i. first.1 i && second.1 i) in
-    subst (Found (11 ∷ rest)) (some_is made x b.2) (
-      record {
-        parts = ap (λ (l : List ℕ). 11 ∷ l) (both.parts ∙ ap (λ (l : List ℕ). l ++ b.0.1) grouped);
-        rest_fits = both.rest_fits;
-      },
-      good,
-    )
+    let a = bind_some (object_at rest) _ x e in
+    let b = bind_some (name_at a.0.1) _ x a.2 in
+    let object = object_takes rest a.0 fits a.1 in
+    let name = name_takes a.0.1 b.0 object.0.rest_fits b.1 in
+    found 11 rest _ x b.2 refl (Takes-then _ _ _ _ _ object.0 name.0) (λ i. object.1 i && name.1 i)
 
 repair_due_takes : (rest : List ℕ) (x : Record × List ℕ) → IsBytes rest → repair_due_at rest ≡ Some x →
     Found (12 ∷ rest) x
 unfolding repair_due_at spelling
 repair_due_takes rest x fits e =
-    let a = bind_some (number_at w64 rest)
-    (λ number. counts_at number.1 >>= λ counts. Some (RepairDue number.0 counts.0, counts.1)) x e in
-    let b = bind_some (counts_at a.0.1) (λ counts. Some (RepairDue a.0.0 counts.0, counts.1)) x a.2 in
-    let made : Record × List ℕ = (RepairDue a.0.0 b.0.0, b.0.1) in
-    let first = number_takes w64 (2 ^ 64) wide64 rest a.0 fits a.1 in
-    let second = counts_takes a.0.1 b.0 first.0.rest_fits b.1 in
-    let both = Takes-then rest (to_le_bytes w64 a.0.0) a.0.1 (counts_bytes b.0.0) b.0.1 first.0 second.0 in
+    let a = number_first w64 _ wide64 rest _ x fits e in
+    let b = bind_some (counts_at a.0.1) _ x a.1 in
+    let counts = counts_takes a.0.1 b.0 a.2.rest_fits b.1 in
     let good : is_in_grammar (RepairDue a.0.0 b.0.0) ≡ true =
-    grind (arith, lt-ltb _ _ first.1, second.1, second.2) in
-    subst (Found (12 ∷ rest)) (some_is made x b.2)
-    (record { parts = ap (λ (l : List ℕ). 12 ∷ l) both.parts; rest_fits = both.rest_fits }, good)
+    grind (arith, lt-ltb _ _ a.3, counts.1, counts.2) in
+    found 12 rest _ x b.2 refl (Takes-then _ _ _ _ _ a.2 counts.0) good
 
 -- one kind after the other
 of_kind : (kind k : ℕ) (rest : List ℕ) (found others : Option (Record × List ℕ)) (x : Record × List ℕ)
@@ -362,71 +292,46 @@ pub record_again : (r : Record) (rest : List ℕ) → is_in_grammar r ≡ true �
 unfolding record_at put_start_at put_done_at drop_at audit_start_at audit_done_at repair_done_at put_done_in_at version_at resume_at in_effect_at repair_due_at spelling
 record_again (SetUp s) rest fits = setup_again s rest (grind (arith, fits)) (grind (arith, fits))
 record_again (PutStart id name) rest fits =
-    let id_fits : id < 2 ^ 64 = grind (arith, nat_tests, fits) in
     let good : is_name name ≡ true = grind (arith, fits) in
-    ap (λ (l : List ℕ). put_start_at l) (append_assoc (to_le_bytes w64 id) (name_bytes name) rest)
-    ∙ rw (number_again w64 (2 ^ 64) wide64 id (name_bytes name ++ rest) id_fits, name_again name rest good)
-    refl
+    rw (
+      number_again w64 (2 ^ 64) wide64 id (name_bytes name ++ rest) (grind (arith, nat_tests, fits)),
+      name_again name rest good,
+    ) refl
 record_again (PutDone id size) rest fits =
-    let id_fits : id < 2 ^ 64 = grind (arith, nat_tests, fits) in
     let short : leb size 4194304 ≡ true = grind (arith, fits) in
-    ap (λ (l : List ℕ). put_done_at l) (append_assoc (to_le_bytes w64 id) (to_le_bytes w32 size) rest)
-    ∙ rw (
-      number_again w64 (2 ^ 64) wide64 id (to_le_bytes w32 size ++ rest) id_fits,
+    rw (
+      number_again w64 (2 ^ 64) wide64 id (to_le_bytes w32 size ++ rest) (grind (arith, nat_tests, fits)),
       number_again w32 (2 ^ 32) wide32 size rest (omega (arith, leb-true _ _ short)),
       short,
     ) refl
 record_again (Drop name) rest fits = rw (name_again name rest fits) refl
 record_again (AuditStart number) rest fits =
-    let number_fits : number < 2 ^ 64 = grind (arith, nat_tests, fits) in
-    rw (number_again w64 (2 ^ 64) wide64 number rest number_fits) refl
+    rw (number_again w64 (2 ^ 64) wide64 number rest (grind (arith, nat_tests, fits))) refl
 record_again (AuditDone number undecided counts) rest fits =
-    let a = to_le_bytes w64 number in
-    let b = to_le_bytes w32 undecided in
-    let d = counts_bytes counts in
+    let d = counts_bytes counts ++ rest in
     let number_fits : number < 2 ^ 64 = grind (arith, nat_tests, fits) in
-    let undecided_fits : undecided < 2 ^ 32 = grind (arith, nat_tests, fits) in
-    let range : (leb 4 (length counts) && leb (length counts) 16) ≡ true = grind (arith, fits) in
-    let each : list_all (λ k. ltb k (2 ^ 32)) counts ≡ true = grind (arith, fits) in
-    let regrouped : (a ++ b ++ d) ++ rest ≡ a ++ (b ++ (d ++ rest)) = append_assoc (a ++ b) d rest
-    ∙ append_assoc a b (d ++ rest) in
-    ap (λ (l : List ℕ). audit_done_at l) regrouped
-    ∙ rw (
-      number_again w64 (2 ^ 64) wide64 number (b ++ (d ++ rest)) number_fits,
-      number_again w32 (2 ^ 32) wide32 undecided (d ++ rest) undecided_fits,
-      counts_again counts rest range each,
+    rw (
+      number_again w64 (2 ^ 64) wide64 number (to_le_bytes w32 undecided ++ d) number_fits,
+      number_again w32 (2 ^ 32) wide32 undecided d (grind (arith, nat_tests, fits)),
+      counts_again counts rest (grind (arith, fits)) (grind (arith, fits)),
     ) refl
 record_again (RepairDone number) rest fits =
-    let number_fits : number < 2 ^ 64 = grind (arith, nat_tests, fits) in
-    rw (number_again w64 (2 ^ 64) wide64 number rest number_fits) refl
+    rw (number_again w64 (2 ^ 64) wide64 number rest (grind (arith, nat_tests, fits))) refl
 record_again (PutDoneIn id size profile) rest fits = rw (object_again id size profile rest fits) refl
 record_again Version rest fits = refl
-record_again (Resume id audit) rest fits =
-    let id_fits : id < 2 ^ 64 = grind (arith, nat_tests, fits) in
-    let audit_fits : audit < 2 ^ 64 = grind (arith, nat_tests, fits) in
-    ap (λ (l : List ℕ). resume_at l) (append_assoc (to_le_bytes w64 id) (to_le_bytes w64 audit) rest)
-    ∙ rw (
-      number_again w64 (2 ^ 64) wide64 id (to_le_bytes w64 audit ++ rest) id_fits,
-      number_again w64 (2 ^ 64) wide64 audit rest audit_fits,
-    ) refl
+record_again (Resume id audit) rest fits = rw (
+  number_again w64 (2 ^ 64) wide64 id (to_le_bytes w64 audit ++ rest) (grind (arith, nat_tests, fits)),
+  number_again w64 (2 ^ 64) wide64 audit rest (grind (arith, nat_tests, fits)),
+) refl
 record_again (InEffect id size profile name) rest fits =
-    let a = to_le_bytes w64 id ++ to_le_bytes w32 size in
     let object : is_object (id, size, profile) ≡ true = grind (arith, fits) in
     let good : is_name name ≡ true = grind (arith, fits) in
-    let regrouped : (a ++ profile ∷ name_bytes name) ++ rest
-    ≡ object_bytes (id, size, profile) ++ (name_bytes name ++ rest) =
-    append_assoc a (profile ∷ name_bytes name) rest
-    ∙ sym (append_assoc a (profile ∷ []) (name_bytes name ++ rest)) in
-    ap (λ (l : List ℕ). in_effect_at l) regrouped
-    ∙ rw (object_again id size profile (name_bytes name ++ rest) object, name_again name rest good) refl
+    rw (object_again id size profile (name_bytes name ++ rest) object, name_again name rest good) refl
 record_again (RepairDue number counts) rest fits =
     let number_fits : number < 2 ^ 64 = grind (arith, nat_tests, fits) in
-    let range : (leb 4 (length counts) && leb (length counts) 16) ≡ true = grind (arith, fits) in
-    let each : list_all (λ k. ltb k (2 ^ 32)) counts ≡ true = grind (arith, fits) in
-    ap (λ (l : List ℕ). repair_due_at l) (append_assoc (to_le_bytes w64 number) (counts_bytes counts) rest)
-    ∙ rw (
+    rw (
       number_again w64 (2 ^ 64) wide64 number (counts_bytes counts ++ rest) number_fits,
-      counts_again counts rest range each,
+      counts_again counts rest (grind (arith, fits)) (grind (arith, fits)),
     ) refl
 
 -- no spelling begins another

@@ -9,16 +9,15 @@ abbrev padded : List ℕ → Counts
 padded ks = record { n = length ks; by = ks ++ replicate (16 - length ks) 0 }
 
 abbrev value_of : Entry → Record
-value_of (SetUp s) =
-    kind.Setup (record {
-      n = s.n;
-      l = s.l;
-      b = s.b;
-      profile = s.profile;
-      rounds = s.rounds;
-      picks = s.picks;
-      tolerance = s.tolerance;
-    }) s.master
+value_of (SetUp s) = kind.Setup (record {
+  n = s.n;
+  l = s.l;
+  b = s.b;
+  profile = s.profile;
+  rounds = s.rounds;
+  picks = s.picks;
+  tolerance = s.tolerance;
+}) s.master
 value_of (PutStart id name) = kind.PutStart id name
 value_of (PutDone id size) = kind.PutDone id size
 value_of (Drop name) = kind.Drop name

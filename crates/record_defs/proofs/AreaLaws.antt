@@ -83,8 +83,7 @@ held_again area rs a b e h =
 
 -- while both areas hold a text, a disk with any switch byte stands for the one or for the other
 pub either_active : (area : Area) (rs qs : List Record) (a b : List ℕ) (switch : ℕ) → HoldsIn a area rs →
-    HoldsIn a (other_area area) qs →
-    take 8 b ≡ magic_front ++ switch ∷ [] → drop 8 a ≡ drop 8 b →
+    HoldsIn a (other_area area) qs → take 8 b ≡ magic_front ++ switch ∷ [] → drop 8 a ≡ drop 8 b →
     StandsActive b area rs ⊎ StandsActive b (other_area area) qs
 either_active area rs qs a b switch h k front same = by (area_of switch) area refl h k
   where

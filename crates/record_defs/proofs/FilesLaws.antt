@@ -18,32 +18,30 @@ same-refl (a ∷ as_) = grind (arith, same-refl as_)
 pub find-without : (fs : List File) (n m : List ℕ) →
     find_file (without_file fs n) m ≡ (if is_same_name n m then None else find_file fs m)
 find-without [] n m = grind (arith)
-find-without (f ∷ fs) n m =
-    grind (
-      arith,
-      find-without fs n m,
-      same-eq f.name n,
-      same-eq f.name m,
-      same-refl m,
-      same-eq n m,
-      same-refl f.name,
-    )
+find-without (f ∷ fs) n m = grind (
+  arith,
+  find-without fs n m,
+  same-eq f.name n,
+  same-eq f.name m,
+  same-refl m,
+  same-eq n m,
+  same-refl f.name,
+)
 
 -- finding a name after a file was put in whose name was not there
 find-with : (fs : List File) (f : File) (m : List ℕ) → find_file fs f.name ≡ None →
     find_file (with_file fs f) m ≡ (if is_same_name f.name m then Some f else find_file fs m)
 find-with [] f m none = refl
-find-with (g ∷ fs) f m none =
-    grind (
-      arith,
-      find-with fs f m,
-      none,
-      same-eq g.name m,
-      same-eq f.name m,
-      same-refl m,
-      same-refl f.name,
-      same-eq g.name f.name,
-    )
+find-with (g ∷ fs) f m none = grind (
+  arith,
+  find-with fs f m,
+  none,
+  same-eq g.name m,
+  same-eq f.name m,
+  same-refl m,
+  same-refl f.name,
+  same-eq g.name f.name,
+)
 
 -- finding a name after a put came in
 find-put : (fs : List File) (started : Option (List ℕ)) (id size profile : ℕ) (m : List ℕ) →
@@ -59,12 +57,11 @@ find-put fs (Some name) id size profile m =
 -- the file in effect under a name is the one that the ordered list has
 pub find-files_of : (rs : List Record) (m : List ℕ) → find_file (files_of rs) m ≡ file_of rs m
 find-files_of [] m = refl
-find-files_of (PutDone id size ∷ rs) m =
-    grind (
-      arith,
-      find-put (files_of rs) (started_as rs id) id size (profile_in (setup_of rs)) m,
-      find-files_of rs m,
-    )
+find-files_of (PutDone id size ∷ rs) m = grind (
+  arith,
+  find-put (files_of rs) (started_as rs id) id size (profile_in (setup_of rs)) m,
+  find-files_of rs m,
+)
 find-files_of (Drop name ∷ rs) m = grind (arith, find-without (files_of rs) name m, find-files_of rs m)
 find-files_of (PutDoneIn id size profile ∷ rs) m =
     grind (arith, find-put (files_of rs) (started_as rs id) id size profile m, find-files_of rs m)

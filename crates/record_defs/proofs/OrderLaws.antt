@@ -53,16 +53,15 @@ below-with n (g ∷ fs) f p q = grind (arith, p, q, below-with n fs f)
 pub ordered-with : (fs : List File) (f : File) → are_ordered fs ≡ true → find_file fs f.name ≡ None →
     are_ordered (with_file fs f) ≡ true
 ordered-with [] f p none = refl
-ordered-with (g ∷ fs) f p none =
-    grind (
-      arith,
-      p,
-      none,
-      ordered-with fs f,
-      below-with g.name fs f,
-      before-other g.name f.name,
-      below-trans f.name g.name fs,
-    )
+ordered-with (g ∷ fs) f p none = grind (
+  arith,
+  p,
+  none,
+  ordered-with fs f,
+  below-with g.name fs f,
+  before-other g.name f.name,
+  below-trans f.name g.name fs,
+)
 
 ordered-put : (fs : List File) (started : Option (List ℕ)) (id size profile : ℕ) → are_ordered fs ≡ true →
     are_ordered (with_put fs started id size profile) ≡ true
@@ -138,16 +137,13 @@ room-in_effect rs id size profile name m p e =
 -- accepted records have at most as many files in effect as there may be
 pub few-files_of : (rs : List Record) → AreAccepted rs → length (files_of rs) ≤ most_files
 few-files_of [] a = omega arith
-few-files_of (PutDone id size ∷ rs) a =
-    few-put (files_of rs) (started_as rs id) id size (profile_in (setup_of rs)) most_files
-    (λ name e. room-put rs id size name a.0 e) (few-files_of rs a.1)
+few-files_of (PutDone id size ∷ rs) a = few-put (files_of rs) (started_as rs id) id size
+    (profile_in (setup_of rs)) most_files (λ name e. room-put rs id size name a.0 e) (few-files_of rs a.1)
 few-files_of (Drop name ∷ rs) a = omega (arith, length-without_le (files_of rs) name, few-files_of rs a.1)
-few-files_of (PutDoneIn id size profile ∷ rs) a =
-    few-put (files_of rs) (started_as rs id) id size profile most_files
-    (λ name e. room-put_in rs id size profile name a.0 e) (few-files_of rs a.1)
-few-files_of (InEffect id size profile name ∷ rs) a =
-    few-put (files_of rs) (Some name) id size profile most_files
-    (λ m e. room-in_effect rs id size profile name m a.0 e) (few-files_of rs a.1)
+few-files_of (PutDoneIn id size profile ∷ rs) a = few-put (files_of rs) (started_as rs id) id size profile
+    most_files (λ name e. room-put_in rs id size profile name a.0 e) (few-files_of rs a.1)
+few-files_of (InEffect id size profile name ∷ rs) a = few-put (files_of rs) (Some name) id size profile
+    most_files (λ m e. room-in_effect rs id size profile name m a.0 e) (few-files_of rs a.1)
 few-files_of (r ∷ rs) a = few-files_of rs a.1
 
 -- ---- the next numbers

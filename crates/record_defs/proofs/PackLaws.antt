@@ -164,16 +164,15 @@ found-later g fs f p e = grind (arith, e, not_here g.name f.name fs f p e)
         list_all (λ (h : File). is_name_before a h.name) fs ≡ true → find_file fs b ≡ Some f →
         is_same_name a b ≡ false
     not_here a b [] f p e = absurd cc
-    not_here a b (h ∷ fs) f p e =
-        grind (
-          arith,
-          p,
-          e,
-          same-eq h.name b,
-          before-not_same a h.name,
-          before-not_same a b,
-          not_here a b fs f,
-        )
+    not_here a b (h ∷ fs) f p e = grind (
+      arith,
+      p,
+      e,
+      same-eq h.name b,
+      before-not_same a h.name,
+      before-not_same a b,
+      not_here a b fs f,
+    )
 
 -- so it holds of all
 pub all-found : (p : File → Bool) (fs : List File) → are_ordered fs ≡ true → EachFound p fs →
@@ -305,13 +304,12 @@ module _ (rs : List Record) (a : AreAccepted rs) (s : Setup) (set : setup_of rs 
 -- packed
 pub packed_are : (rs : List Record) → AreAccepted rs → (s : Setup) → setup_of rs ≡ Some s →
     version_of rs ≡ 2 → AreAccepted (packed rs) × AreAlike (packed rs) rs
-packed_are rs a s set second =
-    subst (λ (o : Option Setup). AreAccepted
+packed_are rs a s set second = subst (λ (o : Option Setup). AreAccepted
     (with_due (due_of rs)
-    (with_files (files_of rs) (Resume (next_id rs) (next_audit rs) ∷ Version ∷ with_setup o)))
-    × AreAlike (with_due (due_of rs)
-    (with_files (files_of rs) (Resume (next_id rs) (next_audit rs) ∷ Version ∷ with_setup o))) rs)
-    (sym set) (on_top rs a s set second (due_of rs) refl)
+    (with_files (files_of rs) (Resume (next_id rs) (next_audit rs) ∷ Version ∷ with_setup o))) × AreAlike
+    (with_due (due_of rs)
+    (with_files (files_of rs) (Resume (next_id rs) (next_audit rs) ∷ Version ∷ with_setup o))) rs) (sym set)
+    (on_top rs a s set second (due_of rs) refl)
 
 files-idle : (fs : List File) (rs : List Record) (id : ℕ) → started_as rs id ≡ None →
     running_audit rs ≡ None → (started_as (with_files fs rs) id ≡ None) ×

@@ -22,9 +22,8 @@ size-found (g ∷ fs) f name all e = grind (arith, nat_tests, all, e, size-found
 pub size-in_effect : (rs : List Record) → AreAccepted rs → (name : List ℕ) (f : File) →
     file_of rs name ≡ Some f → size_by_id (files_of rs) f.id ≡ f.size
 size-in_effect rs a name f h =
-    size-found (files_of rs) f name
-    (all-found (λ (g : File). not (g.id == f.id) || (g.size == f.size)) (files_of rs)
-    (ordered-files_of rs) same) (find-files_of rs name ∙ h)
+    size-found (files_of rs) f name (all-found (λ (g : File). not (g.id == f.id) || (g.size == f.size))
+    (files_of rs) (ordered-files_of rs) same) (find-files_of rs name ∙ h)
   where
     same : (g : File) → find_file (files_of rs) g.name ≡ Some g →
         (not (g.id == f.id) || (g.size == f.size)) ≡ true

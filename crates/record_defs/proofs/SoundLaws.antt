@@ -88,8 +88,7 @@ came_from rs (PutDone k size) q f a h = put_came (cases_Bool (is_start_of q (sta
   where
     put_came : (is_start_of q (started_as rs k) ≡ true) ⊎ (is_start_of q (started_as rs k) ≡ false) →
         Came_from rs (PutDone k size) q f
-    put_came (inl t) =
-        (let n = start_name q (started_as rs k) t in
+    put_came (inl t) = (let n = start_name q (started_as rs k) t in
         let same : k ≡ f.id = id_of (file_as q k size (profile_in (setup_of rs))) f (grind (arith, t, h)) in
         Came_from.put (ap (started_as rs) (sym same) ∙ (n.1 ∙ ap Some (sym n.2)))
         (grind (arith, nat_tests, same)))
@@ -102,8 +101,7 @@ came_from rs (PutDoneIn k size profile) q f a h = put_came (cases_Bool (is_start
   where
     put_came : (is_start_of q (started_as rs k) ≡ true) ⊎ (is_start_of q (started_as rs k) ≡ false) →
         Came_from rs (PutDoneIn k size profile) q f
-    put_came (inl t) =
-        (let n = start_name q (started_as rs k) t in
+    put_came (inl t) = (let n = start_name q (started_as rs k) t in
         let same : k ≡ f.id = id_of (file_as q k size profile) f (grind (arith, t, h)) in
         Came_from.put (ap (started_as rs) (sym same) ∙ (n.1 ∙ ap Some (sym n.2)))
         (grind (arith, nat_tests, same)))
@@ -114,8 +112,7 @@ came_from rs (InEffect k size profile name) q f a h = kept_came (cases_Bool (is_
   where
     kept_came : (is_same_name name q ≡ true) ⊎ (is_same_name name q ≡ false) →
         Came_from rs (InEffect k size profile name) q f
-    kept_came (inl t) =
-        (let same : k ≡ f.id = id_of (file_as q k size profile) f (grind (arith, t, h)) in
+    kept_came (inl t) = (let same : k ≡ f.id = id_of (file_as q k size profile) f (grind (arith, t, h)) in
         let free : is_file_id (files_of rs) k ≡ false = grind (arith, nat_tests, a) in
         let above : 1 ≤ k = grind (arith, nat_tests, a) in
         let below : k < next_id rs = grind (arith, nat_tests, a) in
@@ -217,8 +214,7 @@ due-more rs (AuditDone number undecided counts) S a d h = ended (cases_Bool (exc
   where
     ended : (exceeds (setup_of rs) counts ≡ true) ⊎ (exceeds (setup_of rs) counts ≡ false) →
         IsDueOf (AuditDone number undecided counts ∷ rs) d
-    ended (inl t) =
-        (let runs : is_running number (running_audit rs) ≡ true = grind (arith, a) in
+    ended (inl t) = (let runs : is_running number (running_audit rs) ≡ true = grind (arith, a) in
         let p = S.running number (running_is number (running_audit rs) runs) in
         let each : is_count_each (length counts) (setup_of rs) ≡ true = grind (arith, a) in
         let same : record { number = number; counts = counts } ≡ d =
@@ -234,12 +230,10 @@ due-more rs Version S a d h = due_still rs (Version ∷ rs) d refl (next_audit-m
 due-more rs (Resume next audit) S a d h =
     (let p = S.due d h in let one : next_audit rs ≡ 1 = grind (arith, nat_tests, a) in
     absurd (omega (arith, p.above, p.below, one)))
-due-more rs (InEffect k size profile name) S a d h =
-    due_still rs (InEffect k size profile name ∷ rs) d refl
+due-more rs (InEffect k size profile name) S a d h = due_still rs (InEffect k size profile name ∷ rs) d refl
     (next_audit-more rs (InEffect k size profile name) S a) (S.due d h)
-due-more rs (RepairDue number counts) S a d h =
-    (let same : record { number = number; counts = counts } ≡ d =
-    (let e : Some (record { number = number; counts = counts }) ≡ Some d = h in cc) in
+due-more rs (RepairDue number counts) S a d h = (let same : record { number = number; counts = counts } ≡ d
+    = (let e : Some (record { number = number; counts = counts }) ≡ Some d = h in cc) in
     subst (λ (x : Due). IsDueOf (RepairDue number counts ∷ rs) x) same
     (record {
       above = grind (arith, nat_tests, a);
@@ -288,15 +282,13 @@ sound-more rs r a S = record {
     grows = next_id-more rs r S a
 
     file_is : (q : List ℕ) (f : File) → Came_from rs r q f → IsFileOf (r ∷ rs) f.id
-    file_is q f (Came_from.before h) =
-        (let p = S.file q f h in
+    file_is q f (Came_from.before h) = (let p = S.file q f h in
         record {
           above = p.above;
           below = omega (arith, p.below, grows);
           done = unstarted-more rs r f.id a p.below p.done;
         })
-    file_is q f (Came_from.put was gone) =
-        (let p = S.started f.id q was in
+    file_is q f (Came_from.put was gone) = (let p = S.started f.id q was in
         record { above = p.0; below = omega (arith, p.1, grows); done = gone })
     file_is q f (Came_from.packed named free above below unstarted) =
         record {

@@ -21,8 +21,7 @@ active-long bytes area rs s =
 -- the text of records ends within the bytes that stand for them
 pub active-end : (bytes : List ℕ) (area : Area) (rs : List Record) → StandsActive bytes area rs →
     end_in area rs ≤ length bytes
-active-end bytes area rs s =
-    omega (arith, active-long bytes area rs s, length-entries rs s.holds.in_grammar)
+active-end bytes area rs s = omega (arith, active-long bytes area rs s, length-entries rs s.holds.in_grammar)
 
 -- bytes and their front agree on what the front reaches
 agree-take : (n : ℕ) (bytes : List ℕ) (area : Area) (rs : List Record) →
@@ -54,17 +53,15 @@ stands-front n bytes rs s = (s.0, active-front n bytes s.0 rs s.1)
 -- a text that fits stands at the front
 pub active-take : (n : ℕ) (bytes : List ℕ) (area : Area) (rs : List Record) → StandsActive bytes area rs →
     end_in area rs ≤ n → StandsActive (take n bytes) area rs
-active-take n bytes area rs s fits =
-    active_again area rs bytes (take n bytes)
+active-take n bytes area rs s fits = active_again area rs bytes (take n bytes)
     (agree-take n bytes area rs (omega (arith, fits, length-entries rs s.holds.in_grammar))) s
 
 -- bytes that stand for a record are longer than those of an empty disk
 pub stands-long : (bytes : List ℕ) (rs : List Record) → rs ≢ [] → StandsFor bytes rs → 9 < length bytes
 stands-long bytes [] some s = absurd (some refl)
-stands-long bytes (r ∷ rs) some s =
-    omega (
-      arith,
-      active-long bytes s.0 (r ∷ rs) s.1,
-      base-least s.0,
-      length-append (entries rs) (1 ∷ spelling r),
-    )
+stands-long bytes (r ∷ rs) some s = omega (
+  arith,
+  active-long bytes s.0 (r ∷ rs) s.1,
+  base-least s.0,
+  length-append (entries rs) (1 ∷ spelling r),
+)

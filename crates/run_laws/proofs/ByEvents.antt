@@ -28,8 +28,7 @@ record PutOf (start : State) (ms : List Moment) (name bytes : List ℕ) (S : Sto
 
 put_of_stored : (limit : ℕ) (start : State) (ms : List Moment) (name bytes : List ℕ) → IsStart start →
     IsRun limit start ms → (S : Stored ms name bytes) → PutOf start ms name bytes S
-put_of_stored limit start ms name bytes clean run S =
-    (let old = S.between ++ S.begin ∷ S.older in
+put_of_stored limit start ms name bytes clean run S = (let old = S.between ++ S.begin ∷ S.older in
     let at_put = subst (IsRun limit start) S.split run in
     let run_end = run_back limit start S.later (S.end ∷ old) at_put in
     let none_on = none_under_way (Touches name) limit start clean S.older S.free
@@ -73,8 +72,7 @@ pub put_is_got_later : (limit : ℕ) (start : State) (ms gaps : List Moment) (c 
     (name bytes got : List ℕ) → IsStart start → IsRun limit start (g ∷ (gaps ++ c ∷ ms)) →
     Stored ms name bytes → GetEnds c gaps g get name (Got got) →
     GotRight start ms (g ∷ (gaps ++ c ∷ ms)) get name bytes got
-put_is_got_later limit start ms gaps c g get name bytes got clean run S G =
-    (let all = gaps ++ c ∷ ms in
+put_is_got_later limit start ms gaps c g get name bytes got clean run S G = (let all = gaps ++ c ∷ ms in
     let p = put_of_stored limit start ms name bytes clean (run_back limit start (g ∷ gaps) (c ∷ ms) run).2 S in
     let put = p.put in
     let file = file_as name put.subject (length bytes) put.profile in
@@ -101,8 +99,7 @@ put_is_got_later limit start ms gaps c g get name bytes got clean run S G =
         file,
         in_effect,
         subst (λ hs. HoldsForgery (file_object (now start hs) file) bytes get (heard_in start (g ∷ all)))
-            first
-            (same_forgery start file (now start (first_moments job.begun all)) bytes get g all job q.2 same
-            forged),
+            first (same_forgery start file (now start (first_moments job.begun all)) bytes get g all job q.2
+            same forged),
       )
     ])

@@ -70,8 +70,7 @@ module _ (old : State) where
     records = Records_are.same records;
     doubt = λ d h. Doubt_was.kept (sym doubt ∙ h);
     jobs = jobs;
-    bytes = Bytes_are.same bytes
-        (λ a h none. elim append
+    bytes = Bytes_are.same bytes (λ a h none. elim append
         [ inl e ↦ some-not-none old.append a (sym e ∙ h) none | inr e ↦ some-not-none new.append a h e ]);
     opened = λ h. elim is_open [ inl e ↦ inl (sym e ∙ h) | inr e ↦ absurd (false≢true (sym e ∙ h)) ];
   }
@@ -82,15 +81,13 @@ module _ (old : State) where
   module _ (job : Job) (runs : job_of old.jobs job.number ≡ Some job) where
     in_doubt : (a : Append) → old.append ≡ Some a → (maker : Option Job) (d : Doubt) →
         Some (record { entry = a.entry; maker = maker }) ≡ Some d → Doubt_was old d
-    in_doubt a flight maker d h =
-        (let e : record { entry = a.entry; maker = maker } ≡ d = cc in
+    in_doubt a flight maker d h = (let e : record { entry = a.entry; maker = maker } ≡ d = cc in
         Doubt_was.gated a flight (sym (ap (λ (x : Doubt). x.entry) e)))
 
     -- an append that was begun is of its job
     pub first_job : (entry : Record) (a : Append) → Some (record { job = job.number; entry = entry; moves = 1 })
         ≡ Some a → a.job ≡ job.number
-    first_job entry a h =
-        (let e : record { job = job.number; entry = entry; moves = 1 } ≡ a = cc in
+    first_job entry a h = (let e : record { job = job.number; entry = entry; moves = 1 } ≡ a = cc in
         sym (ap (λ (x : Append). x.job) e))
 
     ends : (new : State) → new.records ≡ old.records → new.doubt ≡ old.doubt →
@@ -102,9 +99,8 @@ module _ (old : State) where
     calls : (y : Job) (new : State) → y.number ≡ job.number → y.kind ≡ job.kind →
         new.jobs ≡ with_job old.jobs y → new.records ≡ old.records → new.doubt ≡ old.doubt →
         new.bytes ≡ old.bytes → new.append ≡ old.append → new.is_open ≡ old.is_open → Direct old new
-    calls y new number kind jobs records doubt bytes append is_open =
-        still new records doubt (Jobs_are.went_on job y runs number kind jobs) bytes (inl append)
-        (inl is_open)
+    calls y new number kind jobs records doubt bytes append is_open = still new records doubt
+        (Jobs_are.went_on job y runs number kind jobs) bytes (inl append) (inl is_open)
 
     acts : Acting old job (λ r w. IsSpelled (Step job.number) → Direct old w)
     acts = record {

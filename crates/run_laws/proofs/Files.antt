@@ -40,8 +40,7 @@ module _ (o : Object) (bytes : List ℕ) where
   pub right-symbols : (stripe : ℕ) (symbols : List ℕ) → length symbols ≡ stripe_symbols o →
       ((place : ℕ) → place < o.profile.keep → IsRightRow stripe symbols place) →
       symbols ≡ symbols_in o bytes stripe
-  right-symbols stripe symbols size rows =
-      fill_by_all (own stripe) symbols (stripe_symbols o) 0 size
+  right-symbols stripe symbols size rows = fill_by_all (own stripe) symbols (stripe_symbols o) 0 size
       (λ i below. at i (place-of o.shape.l o.profile.keep i below))
     where
       at : (i : ℕ) → IsPlace o.shape.l o.profile.keep i → get_or symbols i 0 ≡ own stripe i
@@ -59,9 +58,8 @@ module _ (o : Object) (bytes : List ℕ) where
             IsRightRow stripe symbols place ⊎ IsForgery o bytes seen stripe place
         by_row one = elim (same_or_other (values_at (upto o.shape.l) one.row)
             (primary_row o (symbols_in o bytes stripe) place)) [
-              | inl same ↦ inl (λ j l.
-                  get_or_from_slice_get symbols (j * o.profile.keep + place) (value one.row j) 0
-                  (one.values j l)
+              | inl same ↦ inl (λ j l. get_or_from_slice_get symbols (j * o.profile.keep + place)
+                  (value one.row j) 0 (one.values j l)
                   ∙ map-range_at (value one.row)
                   (λ k. slice_index (codeword o.profile (kept_by o (symbols_in o bytes stripe) k)) place) 0
                   o.shape.l same j (omega arith) (omega (arith, l))

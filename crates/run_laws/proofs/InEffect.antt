@@ -75,8 +75,7 @@ held_more w (PutDone id size) rs fine h name f e = elim (cases_Bool (is_start_of
       (cond_true (is_start_of name (started_as rs id))
       (Some (file_as name id size (profile_in (setup_of rs)))) (file_of rs name) t) e in
       subst (λ (x : File). Holds w x.id x.size) same fine)
-  | inr n ↦ h name f (sym
-      (cond_false (is_start_of name (started_as rs id))
+  | inr n ↦ h name f (sym (cond_false (is_start_of name (started_as rs id))
       (Some (file_as name id size (profile_in (setup_of rs)))) (file_of rs name) n) ∙ e)
 ]
 held_more w (Drop n) rs fine h name f e = elim (cases_Bool (is_same_name n name)) [
@@ -94,9 +93,8 @@ held_more w (PutDoneIn id size profile) rs fine h name f e =
           (cond_true (is_start_of name (started_as rs id)) (Some (file_as name id size profile))
           (file_of rs name) t) e in
           subst (λ (x : File). Holds w x.id x.size) same fine)
-      | inr n ↦ h name f (sym
-          (cond_false (is_start_of name (started_as rs id)) (Some (file_as name id size profile))
-          (file_of rs name) n) ∙ e)
+      | inr n ↦ h name f (sym (cond_false (is_start_of name (started_as rs id))
+          (Some (file_as name id size profile)) (file_of rs name) n) ∙ e)
     ]
 held_more w Version rs fine h name f e = h name f e
 held_more w (Resume next audit) rs fine h name f e = h name f e
@@ -115,11 +113,9 @@ writes_fine : (w : State) (job : Job) (kind : Kind) (entry : Record) →
     ((name bytes : List ℕ) → kind ≡ PutJob name bytes → 4 ≤ job.place → Holds w job.subject (length bytes)) →
     Writes w job kind entry → Fine w entry
 writes_fine w job (PutJob name bytes) entry h writes = elim (cases_lt job.place 4) [
-  | inl l ↦ subst (Fine w)
-      (sym (writes ∙ cond_true (is_first_append job) (PutStart (next_id w.records) name)
+  | inl l ↦ subst (Fine w) (sym (writes ∙ cond_true (is_first_append job) (PutStart (next_id w.records) name)
       (done_record (version_of w.records) job.subject (length bytes) job.profile) (first_below job l))) tt
-  | inr l ↦ subst (Fine w)
-      (sym (writes ∙ cond_false (is_first_append job) (PutStart (next_id w.records) name)
+  | inr l ↦ subst (Fine w) (sym (writes ∙ cond_false (is_first_append job) (PutStart (next_id w.records) name)
       (done_record (version_of w.records) job.subject (length bytes) job.profile) (first_above job l)))
       (by_version (version_of w.records) job.subject (length bytes) job.profile (Fine w) (h name bytes refl l)
       (h name bytes refl l))
@@ -137,8 +133,7 @@ writes_fine w job RepairJob entry h writes = subst (Fine w) (sym writes) tt
 drawn_bytes : (w : State) (job : Job) (kind : Kind) (name bytes : List ℕ) (id : ℕ) →
     kind ≡ PutJob name bytes → is_first_append job ≡ true → id ≡ next_id w.records →
     bytes_drawn w job kind id ≡ bytes
-drawn_bytes w job kind name bytes id is first e =
-    ap (λ kd. bytes_drawn w job kd id) is
+drawn_bytes w job kind name bytes id is first e = ap (λ kd. bytes_drawn w job kd id) is
     ∙ cond_true (is_first_append job && (id == next_id w.records)) bytes (w.bytes id)
     (and_from (is_first_append job) (id == next_id w.records) first (eq-eqb id (next_id w.records) e))
 
@@ -180,8 +175,7 @@ module _ (limit : ℕ) (start : State) (m : Moment) (ms : List Moment) (N : num.
     (F : Facts (now start ms)) (X : Changes limit (length ms) (now start ms) m.event m.outcome m.state)
     (D : Direct (now start ms) m.state) where
   holds_on : (id size : ℕ) → Holds (now start ms) id size → Holds m.state id size
-  holds_on id size h =
-      (let same : m.state.bytes id ≡ (now start ms).bytes id = X.bytes id h.below in
+  holds_on id size h = (let same : m.state.bytes id ≡ (now start ms).bytes id = X.bytes id h.below in
       record {
         below = (let l = h.below in
             let g = next_of_records objects (now start ms) m.state N.written X.records in omega arith);
@@ -263,8 +257,7 @@ module _ (limit : ℕ) (start : State) (m : Moment) (ms : List Moment) (N : num.
 
   own_held : (k : ℕ) (j : Job) (name bytes : List ℕ) → job_of (now start ms).jobs k ≡ Some j →
       j.kind ≡ PutJob name bytes → 4 ≤ j.place → Holds (now start ms) j.subject (length bytes)
-  own_held k j name bytes runs kind late =
-      (let same = F.kept k j name bytes runs kind late in
+  own_held k j name bytes runs kind late = (let same = F.kept k j name bytes runs kind late in
       let both : IsSpelledKind (PutJob name bytes) = subst IsSpelledKind kind (F.spelled k j runs) in
       record {
         below = N.below k j runs (number_is k j name bytes runs kind late);
@@ -324,10 +317,8 @@ module _ (limit : ℕ) (start : State) (m : Moment) (ms : List Moment) (N : num.
         let free = drew_free limit start m ms X x _ runs next_is found refl in
         elim D.bytes [
           | Bytes_are.same e no_new ↦ absurd (no_new a h free)
-          | Bytes_are.drew y runs_y free_y mine_y e ↦
-              (let same : y ≡ x = same_value _ y x
-              (subst (λ n. job_of (now start ms).jobs n ≡ Some y) (sym (mine_y a h) ∙ mine) runs_y)
-              runs in
+          | Bytes_are.drew y runs_y free_y mine_y e ↦ (let same : y ≡ x = same_value _ y x
+              (subst (λ n. job_of (now start ms).jobs n ≡ Some y) (sym (mine_y a h) ∙ mine) runs_y) runs in
               ap (λ f. f j.subject) e
               ∙ (ap (λ (z : Job). bytes_drawn (now start ms) z z.kind j.subject) same
               ∙ drawn_bytes (now start ms) x x.kind name bytes j.subject kx first subject))
@@ -349,8 +340,7 @@ module _ (limit : ℕ) (start : State) (m : Moment) (ms : List Moment) (N : num.
     | Job_is.plain x action runs next_is is_plain goes rec st ↦
         (let kx : x.kind ≡ PutJob name bytes = sym goes.kind ∙ kind in
         elim (cases_eq x.place 3) [
-          | inl three ↦ absurd (subst IsPlain
-              (same_value _ action SyncGate next_is
+          | inl three ↦ absurd (subst IsPlain (same_value _ action SyncGate next_is
               (at_three objects (now start ms) x (subst (Draws objects) (sym kx) tt) three)) is_plain)
           | inr other ↦ carried x runs goes.subject kx (let e = goes.place in omega arith)
         ])
@@ -379,8 +369,7 @@ module _ (limit : ℕ) (start : State) (m : Moment) (ms : List Moment) (N : num.
     where
       carried : (x : Job) → job_of (now start ms).jobs k ≡ Some x → j.subject ≡ x.subject →
           x.kind ≡ PutJob name bytes → 4 ≤ x.place → m.state.bytes j.subject ≡ bytes
-      carried x runs subject kx l =
-          ap m.state.bytes subject
+      carried x runs subject kx l = ap m.state.bytes subject
           ∙ (X.bytes x.subject (N.below k x runs (number_is k x name bytes runs kx l))
           ∙ F.kept k x name bytes runs kx l)
 
@@ -423,8 +412,7 @@ start_facts start clean = record {
 pub facts : (limit : ℕ) (start : State) (ms : List Moment) → IsStart start → IsRun limit start ms →
     Facts (now start ms)
 facts limit start [] clean run = start_facts start clean
-facts limit start (m ∷ ms) clean run =
-    (let N = num.facts objects limit start clean ms run.2 in
+facts limit start (m ∷ ms) clean run = (let N = num.facts objects limit start clean ms run.2 in
     step_facts limit start m ms N (facts limit start ms clean run.2)
     (changes limit (length ms) (now start ms) m.event m.outcome m.state N.idle run.1)
     (direct (now start ms) limit (length ms) m.event m.outcome m.state run.0 run.1))

@@ -43,8 +43,7 @@ module _ (limit : ℕ) (start : State) (clean : IsStart start) (id : ℕ) (bytes
   -- after one more moment of a run a drawn number stands for the same bytes
   pub stands_on : (m : Moment) (ms : List Moment) → IsRun limit start (m ∷ ms) →
       Stands (now start ms) id bytes → Stands m.state id bytes
-  stands_on m ms run h =
-      (let N = num.facts objects limit start clean ms run.2 in
+  stands_on m ms run h = (let N = num.facts objects limit start clean ms run.2 in
       stands_by limit (length ms) (now start ms) m.event m.outcome m.state id bytes N.written
       (changes limit (length ms) (now start ms) m.event m.outcome m.state N.idle run.1) h)
 

@@ -46,9 +46,8 @@ module _ (s : Setup) (job : Job) (shape : IsShape s.n s.l s.b) where
   files-one : (fs : List Pinned) (old a b : Sums) → JudgesFiles s job fs old a → JudgesFiles s job fs old b →
       a ≡ b
   files-one [] old a b ha hb = ha ∙ sym hb
-  files-one (f ∷ fs) old a b (ma, ja, ra) (mb, jb, rb) =
-      (let same : ma ≡ mb =
-      rounds-one f (rounds_of (profiled s f.profile) (length f.bytes)) old ma mb ja jb in
+  files-one (f ∷ fs) old a b (ma, ja, ra) (mb, jb, rb) = (let same : ma ≡ mb = rounds-one f
+      (rounds_of (profiled s f.profile) (length f.bytes)) old ma mb ja jb in
       files-one fs mb a b (subst (λ m. JudgesFiles s job fs m a) same ra) rb)
 
   -- an audit has one verdict on what it heard

@@ -32,8 +32,7 @@ drop-none (suc a) = refl
 padded-append : (a b c : ℕ) (xs : List ℕ) → c ≡ a + b → padded c xs ≡ padded a xs ++ padded b (drop a xs)
 padded-append zero b c xs is = ap (λ n. padded n xs) (let e : c ≡ b = omega (arith, is) in e)
 padded-append (suc a) b zero xs is = absurd (omega (arith, is))
-padded-append (suc a) b (suc c) [] is = ap (λ (l : List ℕ). 0 ∷ l)
-    (padded-append a b c [] (omega (arith, is))
+padded-append (suc a) b (suc c) [] is = ap (λ (l : List ℕ). 0 ∷ l) (padded-append a b c [] (omega (arith, is))
     ∙ ap (λ (l : List ℕ). padded a [] ++ padded b l) (drop-none a))
 padded-append (suc a) b (suc c) (x ∷ xs) is =
     ap (λ (l : List ℕ). x ∷ l) (padded-append a b c xs (omega (arith, is)))

@@ -56,8 +56,7 @@ handed w = (let long = length-map-range_with_len w.providers 0 w.handed in recor
 -- each run has left such devices
 pub left-of : (start : State) (ms : List Moment) → IsStart start → IsRun 8 start ms →
     AreLeft start ms (devices_left (now start ms))
-left-of start ms starts run =
-    (let w : State = now start ms in
+left-of start ms starts run = (let w : State = now start ms in
     let sound : IsSound 8 w = run-sound 8 start ms (omega arith, omega arith) starts run in record {
       starts = starts;
       run = run;
@@ -79,8 +78,7 @@ seen start ms d old left told is =
 
 -- a command does nothing, or goes on with the run that has left the devices
 pub goes-on : (start : State) (ms : List Moment) (d : Devices) (form : Form) (old new : Seen) (end : Ending) →
-    AreLeft start ms d → IsSome d.holds → devices_of_seen old ≡ d →
-    KeepsTheHeadline form old new end →
+    AreLeft start ms d → IsSome d.holds → devices_of_seen old ≡ d → KeepsTheHeadline form old new end →
     GoesOnWith start ms old new end
 goes-on start ms d form old new end left told is (inl (status, at, other, undone)) = inl (status, at, undone)
 goes-on start ms d form old new end left told is (inr asks) =
@@ -89,8 +87,7 @@ goes-on start ms d form old new end left told is (inr asks) =
 -- so it does over those of the last state
 pub goes-with : (start : State) (ms : List Moment) (form : Form) (old new : Seen) (end : Ending) →
     IsStart start → IsRun 8 start ms → devices_of_seen old ≡ devices_left (now start ms) →
-    KeepsTheHeadline form old new end →
-    GoesOnWith start ms old new end
+    KeepsTheHeadline form old new end → GoesOnWith start ms old new end
 goes-with start ms form old new end starts run is headline =
     goes-on start ms (devices_left (now start ms)) form old new end (left-of start ms starts run) refl is headline
 
@@ -98,11 +95,10 @@ goes-with start ms form old new end starts run is headline =
 pub keeps-half : (start : State) (ms : List Moment) (old new : Seen) (end : Ending) → AllTell start →
     GoesOnWith start ms old new end → KeepsSecondHalf start ms old new end
 keeps-half start ms old new end tell (inl undone) = inl undone
-keeps-half start ms old new end tell (inr goes) =
-    inr (record {
-      goes_on = goes;
-      half = λ calm. goes.carries.headline.scrub_calm_gets_end_well tell calm;
-    })
+keeps-half start ms old new end tell (inr goes) = inr (record {
+  goes_on = goes;
+  half = λ calm. goes.carries.headline.scrub_calm_gets_end_well tell calm;
+})
 
 -- ---- a file stays until a record takes it out
 
@@ -118,14 +114,13 @@ keeps-file : (later before : List Moment) (m : Moment) (name : List ℕ) (file :
     GoesOnWith set_up (later ++ m ∷ before) old new end →
     KeepsItsFile set_up (later ++ m ∷ before) name file old new end
 keeps-file later before m name file old new end starts comes never at_end (inl undone) = inl undone
-keeps-file later before m name file old new end starts comes never at_end (inr goes) =
-    inr (record {
-      goes_on = goes;
-      kept = λ none. subst (λ (ms : List Moment). IsKept (now set_up ms) name file) split
-          (survives 8 set_up (goes.later ++ call ∷ later) before m name file starts
-          (subst (IsRun 8 set_up) (sym split) goes.carries.run) comes
-          (never-more name goes.later (call ∷ later) none (at_end, never)));
-    })
+keeps-file later before m name file old new end starts comes never at_end (inr goes) = inr (record {
+  goes_on = goes;
+  kept = λ none. subst (λ (ms : List Moment). IsKept (now set_up ms) name file) split
+      (survives 8 set_up (goes.later ++ call ∷ later) before m name file starts
+      (subst (IsRun 8 set_up) (sym split) goes.carries.run) comes
+      (never-more name goes.later (call ∷ later) none (at_end, never)));
+})
   where
     call : Moment
     call = call_from (now set_up (later ++ m ∷ before))
@@ -143,7 +138,6 @@ pub keeps : (ms : List Moment) (count k : ℕ) (name : List ℕ) (file : File) �
     KeepsItsFile set_up ms name file old new end
 keeps ms count k name file starts run split comes never none form old new end is headline =
     subst (λ l. NoneTakesOut name (now set_up l) → GoesOnWith set_up l old new end →
-    KeepsItsFile set_up l name file old new end) split
-    (keeps-file (take count ms) (first_moments k ms) (event_of ms k) name file old new end starts comes
-    (never_by_test name (take count ms) never)) none
+    KeepsItsFile set_up l name file old new end) split (keeps-file (take count ms) (first_moments k ms)
+    (event_of ms k) name file old new end starts comes (never_by_test name (take count ms) never)) none
     (goes-with set_up ms form old new end starts run is headline)

@@ -60,8 +60,7 @@ silent law (Once event) older later base lines start C one run none =
     (none_before C.2 (lines_of C.0.outcome) (sym C.6 ∙ none))
 silent law (RunJob job) older later base lines start C one run none =
     wrote law C.0 ((C.1 ++ C.2) ++ base) start (Step job) tt C.5.step
-    (subst (λ l. IsRun 8 start (l ++ base)) C.4 run)
-    (none_before C.3 (lines_of C.0.outcome) (sym C.7 ∙ none))
+    (subst (λ l. IsRun 8 start (l ++ base)) C.4 run) (none_before C.3 (lines_of C.0.outcome) (sym C.7 ∙ none))
 
 -- at status 0 the lines are what the sink took
 no_lines : (lines : List ℕ) (status : ℕ) (old new : Seen) (taken : List ℕ) → status ≡ 0 →
@@ -90,8 +89,7 @@ pub idle : HasWritten → ((text : List ℕ) (commands others : List Instruction
 idle law one text command older start before old new end taken from gone spells asks disk left ok takes same
     (inl (status, at, other, undone)) = other (sym undone.status_is ∙ ok)
 idle law one text command older start before old new end taken from gone spells asks disk left ok takes same
-    (inr A) =
-    (let T : AsksByText old new A.commands = A.asks in
+    (inr A) = (let T : AsksByText old new A.commands = A.asks in
     let commands : A.commands ≡ reverse (command ∷ older) = one text A.commands (reverse (command ∷ older))
     (subst (λ t. IsSchedule t A.commands)
     (read_whole text T.text old.source new.source T.reads.front from gone) T.spells) spells in

@@ -1,15 +1,11 @@
 -- A field that was read is one word, which spells it; and what a word spells is read.
-use Rattle.schedule_text.proofs.Words.{◌≡◌, ℕ, ◌^◌, Bool, true, false, cond, ltb, List, [], ◌∷◌, length, Option, Some, None, refl, sym, ap, subst, ◌∙◌, inl, inr, codes, Result, Ok, Err, IsErrAnd, bytes_eq, eqb-true, lt-ltb, ltb-true, eq-eqb, bytes_eq-Decides, decode_of, cond-cases, bind_some, some_is, done, Instruction, IsNumberWord, Word, IsNumber, IsHex, IsKey, Gives, FailsToRead, only_if, found_in, word_at, only_command, number_in, bytes_in, key_in, numeral_at, number_word_at, profile_at, bytes_at, key_at}
+use Rattle.schedule_text.proofs.Words.{◌≡◌, ℕ, ◌^◌, Bool, true, false, cond, ltb, List, [], ◌∷◌, length, Option, Some, None, refl, sym, ap, subst, inl, inr, codes, Result, Ok, Err, IsErrAnd, bytes_eq, eqb-true, lt-ltb, ltb-true, eq-eqb, bytes_eq-Decides, decode_of, cond-cases, bind_some, some_is, done, Instruction, IsNumberWord, Word, IsNumber, IsHex, IsKey, Gives, FailsToRead, only_if, found_in, word_at, only_command, number_in, bytes_in, key_in, numeral_at, number_word_at, profile_at, bytes_at, key_at}
 use Rattle.std.specs.Prelude.{◌==◌}
 use Rattle.record_codec.specs.Reading.{◌>>=◌}
+use Rattle.record_codec.proofs.Fields.{passed}
 use Rattle.schedule_text.specs.declared.fault.LineFault.{LineFault}
 use Rattle.schedule_text.specs.declared.fault.LineFault.TheVariants as faults
 use Rattle.schedule_text.proofs.Numbers.{word-number_in, number_in-word}
-
--- what passed a test is what was tested
-pub passed : {A : Type 0} (test : Bool) (x y : A) → only_if test x ≡ Some y → (test ≡ true) × (x ≡ y)
-passed true x y e = (refl, cc)
-passed false x y e = absurd cc
 
 -- one word was taken from the front, and it spells the value
 abbrev pub Took : {A : Type 0} → (Word → A → Type 0) → List Word → A × List Word → Type 0
@@ -111,37 +107,25 @@ pub number-again : (bits : ℕ) (word : Word) (ws : List Word) (number : ℕ) �
 unfolding number_word_at
 number-again bits word ws number is = rw (numeral-again word ws number is.0, lt-ltb _ _ is.1) refl
 
--- the number of a profile is taken from its word
-pub profile-again : (word : Word) (ws : List Word) (profile : ℕ) → IsNumber 8 word profile →
-    profile_at (word ∷ ws) ≡ Some (Some profile, ws)
-unfolding profile_at
-profile-again word ws profile is = rw (number-again 8 word ws profile is) refl
+module _ (ws : List Word) (word : Word) (more : List Word) (is : ws ≡ word ∷ more) where
+  -- where a word is left, what is read as a number is read as a profile
+  profile-first : (read : Option (ℕ × List Word)) → number_word_at 8 ws ≡ read →
+      profile_at ws ≡ (read >>= λ number. Some (Some number.0, number.1))
+  unfolding profile_at
+  profile-first read e = rw (← e, is) refl
 
--- where a word is left, what is read as a number is read as a profile
-profile-first : (ws : List Word) (word : Word) (more : List Word) → ws ≡ word ∷ more →
-    profile_at ws ≡ (number_word_at 8 ws >>= λ number. Some (Some number.0, number.1))
-unfolding profile_at
-profile-first ws word more is = rw is refl
+  -- where a word is left, its number is the profile's
+  pub profile-reads : (number : ℕ) (left : List Word) → number_word_at 8 ws ≡ Some (number, left) →
+      profile_at ws ≡ Some (Some number, left)
+  profile-reads number left read = profile-first (Some (number, left)) read
 
--- where a word is left, its number is the profile's
-pub profile-reads : (ws : List Word) (word : Word) (more : List Word) (number : ℕ) (left : List Word)
-    → ws ≡ word ∷ more → number_word_at 8 ws ≡ Some (number, left) → profile_at ws ≡ Some (Some number, left)
-profile-reads ws word more number left is read = profile-first ws word more is
-    ∙ ap (λ (read : Option (ℕ × List Word)). read >>= λ number. Some (Some number.0, number.1)) read
-
--- where a word is left, a fault of its number is one of the profile
-pub profile-fails : {X : Type 0} (view : X → Option ℕ × List Word) (result : Result X LineFault)
-    (fault : LineFault) (ws : List Word) (word : Word) (more : List Word) → ws ≡ word ∷ more
-    → IsErrAnd result (λ e. e ≡ fault) → FailsToRead fault (number_word_at 8 ws)
-    → Gives view result (profile_at ws)
-profile-fails view (Ok x) fault ws word more is same fails = absurd same
-profile-fails view (Err e) fault ws word more is same fails =
-    subst (λ (f : LineFault). FailsToRead f (profile_at ws)) (sym same) (none fault fails)
-  where
-    none : (fault : LineFault) → FailsToRead fault (number_word_at 8 ws) → FailsToRead fault (profile_at ws)
-    none faults.Memory fails = tt
-    none faults.Bad fails = profile-first ws word more is
-        ∙ ap (λ (read : Option (ℕ × List Word)). read >>= λ number. Some (Some number.0, number.1)) fails
+  -- where a word is left, a fault of its number is one of the profile
+  pub profile-fails : {X : Type 0} (view : X → Option ℕ × List Word) (result : Result X LineFault)
+      (fault : LineFault) → IsErrAnd result (λ e. e ≡ fault) → FailsToRead fault (number_word_at 8 ws)
+      → Gives view result (profile_at ws)
+  profile-fails view (Ok x) fault same fails = absurd same
+  profile-fails view (Err e) faults.Memory same fails = rw same tt
+  profile-fails view (Err e) faults.Bad same fails = rw same (profile-first None fails)
 
 -- bytes are taken from their word
 pub bytes-again : (word : Word) (ws : List Word) (bytes : List ℕ) → IsHex word bytes →
@@ -149,21 +133,13 @@ pub bytes-again : (word : Word) (ws : List Word) (bytes : List ℕ) → IsHex wo
 unfolding bytes_at
 bytes-again word ws bytes is = ap (λ (read : Option (List ℕ)). read >>= λ value. Some (value, ws)) (read is)
   where
-    no_digits : (word : Word) → word ≡ codes "-" → bytes_eq word (codes "-") ≡ true
-    no_digits word is = (bytes_eq-Decides word (codes "-")).1 is
-
     read : IsHex word bytes → bytes_in word ≡ Some bytes
-    read (inl none) = rw (no_digits word none.0) (ap (λ (bs : List ℕ). Some bs) (sym none.1))
+    read (inl none) = rw ((bytes_eq-Decides word (codes "-")).1 none.0, none.1) refl
     read (inr some) = at (bytes_eq word (codes "-")) refl
       where
         at : (test : Bool) → bytes_eq word (codes "-") ≡ test →
             cond test (done []) (found_in (decode_of word)) ≡ Some bytes
-        at true dash = absurd
-            (bad (subst (λ (w : Word). decode_of w ≡ Ok bytes)
-            ((bytes_eq-Decides word (codes "-")).0 dash) some))
-          where
-            bad : decode_of (codes "-") ≡ Ok bytes → ⊥
-            bad e = cc
+        at true dash = absurd (cc (some, (bytes_eq-Decides word (codes "-")).0 dash))
         at false other = rw some refl
 
 -- a key is taken from its word

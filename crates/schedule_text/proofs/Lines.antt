@@ -14,8 +14,7 @@ without_return-last line last is =
 
 -- one byte more at the front
 without_return-suc : (b c : ℕ) (line : List ℕ) → without_return (b ∷ c ∷ line) ≡ b ∷ without_return (c ∷ line)
-without_return-suc b c line =
-    without_return-last (b ∷ c ∷ line) (suc (length line)) refl
+without_return-suc b c line = without_return-last (b ∷ c ∷ line) (suc (length line)) refl
     ∙ push (slice_index (c ∷ line) (length line) == 13) (take (length line) (c ∷ line)) (c ∷ line)
     ∙ ap (λ (l : List ℕ). b ∷ l) (sym (without_return-last (c ∷ line) (length line) refl))
   where
@@ -47,9 +46,8 @@ next (c ∷ text) free = differ c 10 free.0
 -- no newline, so nothing is dropped
 without_returns-free : (text : List ℕ) → Free 10 text → without_returns text ≡ text
 without_returns-free [] free = refl
-without_returns-free (b ∷ text) free =
-    keep (b == 13) (slice_index text 0 == 10) (without_returns text) (b ∷ without_returns text)
-    (next text free.1)
+without_returns-free (b ∷ text) free = keep (b == 13) (slice_index text 0 == 10) (without_returns text)
+    (b ∷ without_returns text) (next text free.1)
     ∙ ap (λ (t : List ℕ). b ∷ t) (without_returns-free text free.1)
 
 -- up to the first newline
@@ -76,20 +74,17 @@ lines-free text free =
 -- a line and its newline
 pub lines-append : (line rest : List ℕ) → Free 10 line →
     lines (line ++ 10 ∷ rest) ≡ without_return line ∷ lines rest
-lines-append line rest free =
-    ap (λ (t : List ℕ). pieces 10 t) (without_returns-append line rest free)
+lines-append line rest free = ap (λ (t : List ℕ). pieces 10 t) (without_returns-append line rest free)
     ∙ pieces-append 10 (without_return line) (without_returns rest) (free-without_return line free)
 
 -- up to the first place of a newline
 pub lines-first : (text : List ℕ) (end : ℕ) → end < length text → Nowhere (Passes (is_byte 10) text) 0 end →
-    Passes (is_byte 10) text end
-    → lines text ≡ without_return (take end text) ∷ lines
-    (take (length text - (end + 1)) (drop (end + 1) text))
-lines-first text end within none here =
-    rw (
-      take_all (length text - (end + 1)) (drop (end + 1) text) (omega (arith, length-drop (end + 1) text)),
-      add-one end,
-    )
+    Passes (is_byte 10) text end →
+    lines text ≡ without_return (take end text) ∷ lines (take (length text - (end + 1)) (drop (end + 1) text))
+lines-first text end within none here = rw (
+  take_all (length text - (end + 1)) (drop (end + 1) text) (omega (arith, length-drop (end + 1) text)),
+  add-one end,
+)
     (ap (λ (t : List ℕ). lines t) (around 10 text end within here)
     ∙ lines-append (take end text) (drop (suc end) text) (free_before 10 text end (omega arith) none))
 

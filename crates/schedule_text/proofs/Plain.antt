@@ -1,6 +1,6 @@
 -- Words without a space and without a newline.
 use Rattle.schedule_text.proofs.Words.{◌≡◌, ◌≢◌, ℕ, zero, suc, ◌+◌, ◌/◌, ◌%◌, ◌^◌, ◌<◌, Bool, true, List, [], ◌∷◌, length, get_or, refl, arith, inl, inr, not, length-append, codes, slice_index, IsTrue, AllByRecursion, list_all, decimal, AllDigits, nat_tests, decimal_is_IsNumeral_wide, decimal_by_steps_wide, get_or_append_left, digit_from_value, encode_with, encode_lower, lower_digits, decode_of-encode_lower, length-encode_with, is_master, IsNumberWord, Word, IsNumber, IsHex, IsKey, IsInWord, IsName, hex_of}
-use Rattle.std.specs.Prelude.{◌==◌, ◌&&◌}
+use Rattle.std.specs.Prelude.{◌==◌, ◌&&◌, nat_lt}
 use Rattle.record_defs.specs.Records.{is_byte}
 use Rattle.record_codec.proofs.Takes.{IsBytes-from_all}
 use Rattle.schedule_text.proofs.Pieces.{Free}
@@ -26,10 +26,10 @@ free_by_test (b ∷ word) plain =
     ((grind (arith, nat_tests), rest.0), (grind (arith, nat_tests), rest.1))
 
 -- a word that is written out
-pub plain_by_test : (word : Word) → 0 < length word → are_plain word ≡ true → IsPlain word
-plain_by_test word some plain =
-    let free = free_by_test word plain in
-    record { some = some; no_space = free.0; no_newline = free.1 }
+pub written : (word : Word) → (nat_lt 0 (length word) && are_plain word) ≡ true → IsPlain word
+written word test =
+    let free = free_by_test word (grind (arith, nat_tests)) in
+    record { some = grind (arith, nat_tests); no_space = free.0; no_newline = free.1 }
 
 -- a name
 free_name : (name : List ℕ) → AllByRecursion IsInWord name → Free 32 name × Free 10 name
@@ -72,8 +72,7 @@ abbrev Leads : ℕ → List ℕ → Type 0
 Leads n ds = (0 < length ds) × (0 < n → 48 < get_or ds 0 0) × (n < 10 → length ds ≡ 1)
 
 leading : (n : ℕ) → n < 10 ^ 64 → Leads n (decimal n)
-leading n small = decimal_by_steps_wide Leads
-    (λ m few. (omega arith, (λ some. omega arith), (λ few. refl)))
+leading n small = decimal_by_steps_wide Leads (λ m few. (omega arith, (λ some. omega arith), (λ few. refl)))
     (λ m ds many so_far. (
       omega (arith, length-append ds ((48 + m % 10) ∷ [])),
       (λ some. omega (
@@ -135,7 +134,7 @@ plain-encode bytes some =
 
 -- nor has the word for bytes, which is `-` for none
 pub plain-hex_of : (bytes : List ℕ) → IsPlain (hex_of bytes)
-plain-hex_of [] = plain_by_test (codes "-") (omega arith) refl
+plain-hex_of [] = written (codes "-") refl
 plain-hex_of (b ∷ bytes) = plain-encode (b ∷ bytes) (omega arith)
 
 -- the word for bytes spells them

@@ -9,8 +9,7 @@ begun-length b (p ∷ ps) = refl
 
 few-pieces : (c : ℕ) (text : List ℕ) → length (pieces c text) ≤ length text + 1
 few-pieces c [] = omega arith
-few-pieces c (b ∷ text) =
-    (let few = few-pieces c text in
+few-pieces c (b ∷ text) = (let few = few-pieces c text in
     let begins = begun-length b (pieces c text) in
     elim (cases_Bool (b == c)) [
       | inl t ↦ subst (λ (ps : List (List ℕ)). length ps ≤ length (b ∷ text) + 1)
@@ -23,8 +22,7 @@ few-pieces c (b ∷ text) =
 
 fewer-bytes : (text : List ℕ) → length (without_returns text) ≤ length text
 fewer-bytes [] = omega arith
-fewer-bytes (b ∷ text) =
-    (let few = fewer-bytes text in
+fewer-bytes (b ∷ text) = (let few = fewer-bytes text in
     elim (cases_Bool ((b == 13) && (slice_index text 0 == 10))) [
       | inl t ↦ subst (λ (l : List ℕ). length l ≤ length (b ∷ text))
           (sym (cond_true _ (without_returns text) (b ∷ without_returns text) t)) (omega (arith, few))
@@ -43,8 +41,7 @@ few-commands (line ∷ ls) commands (inr (first, more, is, spells, are)) =
 -- a schedule has at most as many commands as bytes, and one
 pub few : (text : List ℕ) (commands : List Instruction) → IsSchedule text commands →
     length commands ≤ length text + 1
-few text commands is =
-    (let a = few-commands (lines text) commands is in
+few text commands is = (let a = few-commands (lines text) commands is in
     let b = few-pieces 10 (without_returns text) in
     let c = fewer-bytes text in
     omega (arith, a, b, c))

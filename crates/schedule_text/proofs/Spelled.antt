@@ -1,9 +1,9 @@
 -- The spelling of commands is a schedule of them.
-use Rattle.schedule_text.proofs.Words.{◌≡◌, ℕ, ◌<◌, false, List, [], ◌∷◌, ◌++◌, length, refl, sym, ap, subst, ◌∙◌, arith, inl, inr, append_assoc, codes, slice_index, AllByRecursion, flat_map, decimal, encode_lower, Setup, Kind, PutJob, GetJob, DropJob, AuditJob, RepairJob, UpgradeJob, Init, Begin, BeginAt, BeginScrub, BeginPack, Step, Alter, Lose, Stop, Reopen, Names, Continue, Instruction, Once, RunJob, Word, pieces, words, SpellsCommand, without_returns, lines, AreLines, IsSchedule, CanBeSpelled, hex_of, words_of, spaced, schedule_bytes}
+use Rattle.schedule_text.proofs.Words.{◌≡◌, ℕ, ◌<◌, false, List, [], ◌∷◌, ◌++◌, length, refl, sym, ap, ◌∙◌, arith, inl, inr, append_assoc, slice_index, AllByRecursion, flat_map, decimal, encode_lower, PutJob, GetJob, DropJob, AuditJob, Init, Begin, BeginAt, Step, Alter, Lose, Stop, Continue, Instruction, Once, RunJob, Word, pieces, words, SpellsCommand, without_returns, lines, IsSchedule, CanBeSpelled, hex_of, words_of, spaced, schedule_bytes}
 use Rattle.std.specs.Prelude.{◌==◌}
 use Rattle.schedule_text.proofs.Pieces.{Free, differ, pieces-append, words-append}
 use Rattle.schedule_text.proofs.Lines.{keep}
-use Rattle.schedule_text.proofs.Plain.{IsPlain, plain_by_test, plain-name, plain-decimal, plain-encode, plain-hex_of, number-decimal, hex-hex_of, key-encode, size-master}
+use Rattle.schedule_text.proofs.Plain.{IsPlain, written, plain-name, plain-decimal, plain-encode, plain-hex_of, number-decimal, hex-hex_of, key-encode, size-master}
 
 -- the words of a line
 abbrev body : List Word → List ℕ
@@ -13,8 +13,7 @@ body ws = flat_map spaced ws
 
 words-body : (ws : List Word) → AllByRecursion IsPlain ws → words (body ws) ≡ ws
 words-body [] all = refl
-words-body (word ∷ ws) all =
-    ap (λ (t : List ℕ). words t) (append_assoc word (32 ∷ []) (body ws))
+words-body (word ∷ ws) all = ap (λ (t : List ℕ). words t) (append_assoc word (32 ∷ []) (body ws))
     ∙ words-append word (body ws) all.0.some all.0.no_space
     ∙ ap (λ (t : List Word). word ∷ t) (words-body ws all.1)
 
@@ -59,8 +58,7 @@ returns-spaced (b ∷ front) rest free =
 
 -- a line and its newline
 lines-line : (text rest : List ℕ) → Ends text → lines ((text ++ 10 ∷ []) ++ rest) ≡ text ∷ lines rest
-lines-line text rest ends =
-    ap (λ (t : List ℕ). lines ((t ++ 10 ∷ []) ++ rest)) ends.is
+lines-line text rest ends = ap (λ (t : List ℕ). lines ((t ++ 10 ∷ []) ++ rest)) ends.is
     ∙ ap (λ (t : List ℕ). lines t) (regrouped ends.front rest)
     ∙ ap (λ (t : List ℕ). pieces 10 t) (returns-spaced ends.front rest ends.free
     ∙ grouped ends.front (without_returns rest))
@@ -78,252 +76,85 @@ lines-line text rest ends =
 
 -- ---- the words of a command
 
--- the words of a command are words, and spell it
-pub record IsSpelling (command : Instruction) (ws : List Word) : Type 0 where
-  pub plain : AllByRecursion IsPlain ws
-  pub some : 0 < length ws
-  pub spells : SpellsCommand ws command
+-- they are words
+words_plain : (command : Instruction) → CanBeSpelled command → AllByRecursion IsPlain (words_of command)
+words_plain (Once (Init s)) can =
+    search (arith, written, plain-decimal, plain-encode s.master (size-master s.master can.7), can)
+words_plain (Once (Begin (PutJob name bytes))) can = search (written, plain-hex_of, plain-name name can.1)
+words_plain (Once (Begin (GetJob name))) can = search (written, plain-name name can.1)
+words_plain (Once (Begin (DropJob name))) can = search (written, plain-name name can.1)
+words_plain (Once (BeginAt profile name bytes)) can =
+    search (written, plain-hex_of, plain-name name can.1, plain-decimal profile (omega (arith, can.0.0)))
+words_plain (Once (Alter provider object stripe place symbol)) can =
+    search (arith, written, plain-decimal, can)
+words_plain (Once (Lose provider object stripe)) can = search (arith, written, plain-decimal, can)
+words_plain (Once (Step job)) can = search (written, plain-decimal job (omega (arith, can)))
+words_plain (RunJob job) can = search (written, plain-decimal job (omega (arith, can)))
+words_plain (Once Continue) can = absurd can
+words_plain (Once event) can = search (written, plain-hex_of)
 
--- those of a set-up
-init_spelling : (s : Setup) → CanBeSpelled (Once (Init s)) →
-    IsSpelling (Once (Init s)) (words_of (Once (Init s)))
-init_spelling s can =
-    record {
-      plain = (
-        plain_by_test (codes "init") (omega arith) refl,
-        (
-          plain-decimal s.n (omega (arith, can.0)),
-          (
-            plain-decimal s.l (omega (arith, can.1)),
-            (
-              plain-decimal s.b (omega (arith, can.2)),
-              (
-                plain-decimal s.profile (omega (arith, can.3)),
-                (
-                  plain-decimal s.rounds (omega (arith, can.4)),
-                  (
-                    plain-decimal s.picks (omega (arith, can.5)),
-                    (
-                      plain-decimal s.tolerance (omega (arith, can.6)),
-                      (plain-encode s.master (size-master s.master can.7), tt),
-                    ),
-                  ),
-                ),
-              ),
-            ),
-          ),
-        ),
-      );
-      some = omega arith;
-      spells = (
-        decimal s.n,
-        decimal s.l,
-        decimal s.b,
-        decimal s.profile,
-        decimal s.rounds,
-        decimal s.picks,
-        decimal s.tolerance,
-        encode_lower s.master,
-        refl,
-        number-decimal 8 s.n can.0 (omega (arith, can.0)),
-        number-decimal 8 s.l can.1 (omega (arith, can.1)),
-        number-decimal 8 s.b can.2 (omega (arith, can.2)),
-        number-decimal 8 s.profile can.3 (omega (arith, can.3)),
-        number-decimal 8 s.rounds can.4 (omega (arith, can.4)),
-        number-decimal 8 s.picks can.5 (omega (arith, can.5)),
-        number-decimal 16 s.tolerance can.6 (omega (arith, can.6)),
-        key-encode s.master can.7,
-      );
-    }
+words_some : (command : Instruction) → CanBeSpelled command → 0 < length (words_of command)
+words_some (Once Continue) can = absurd can
+words_some (Once (Begin AuditJob)) can = omega arith
+words_some (Once event) can = omega arith
+words_some (RunJob job) can = omega arith
 
--- those of a job's begin
-job_spelling : (kind : Kind) → CanBeSpelled (Once (Begin kind)) →
-    IsSpelling (Once (Begin kind)) (words_of (Once (Begin kind)))
-job_spelling (PutJob name bytes) can = record {
-  plain = (
-    plain_by_test (codes "begin") (omega arith) refl,
-    (plain_by_test (codes "put") (omega arith) refl, (plain-name name can.1, (plain-hex_of bytes, tt))),
-  );
-  some = omega arith;
-  spells = (hex_of bytes, refl, hex-hex_of bytes can.0.1);
-}
-job_spelling (GetJob name) can = record {
-  plain = (
-    plain_by_test (codes "begin") (omega arith) refl,
-    (plain_by_test (codes "get") (omega arith) refl, (plain-name name can.1, tt)),
-  );
-  some = omega arith;
-  spells = refl;
-}
-job_spelling (DropJob name) can = record {
-  plain = (
-    plain_by_test (codes "begin") (omega arith) refl,
-    (plain_by_test (codes "drop") (omega arith) refl, (plain-name name can.1, tt)),
-  );
-  some = omega arith;
-  spells = refl;
-}
-job_spelling AuditJob can = record {
-  plain = (
-    plain_by_test (codes "begin") (omega arith) refl,
-    (plain_by_test (codes "audit") (omega arith) refl, tt),
-  );
-  some = omega arith;
-  spells = refl;
-}
-job_spelling RepairJob can = record {
-  plain = (
-    plain_by_test (codes "begin") (omega arith) refl,
-    (plain_by_test (codes "repair") (omega arith) refl, tt),
-  );
-  some = omega arith;
-  spells = refl;
-}
-job_spelling UpgradeJob can = record {
-  plain = (
-    plain_by_test (codes "begin") (omega arith) refl,
-    (plain_by_test (codes "upgrade") (omega arith) refl, tt),
-  );
-  some = omega arith;
-  spells = refl;
-}
-
--- those of the begin of a put with a profile
-put_at_spelling : (profile : ℕ) (name bytes : List ℕ) → CanBeSpelled (Once (BeginAt profile name bytes)) →
-    IsSpelling (Once (BeginAt profile name bytes)) (words_of (Once (BeginAt profile name bytes)))
-put_at_spelling profile name bytes can = record {
-  plain = (
-    plain_by_test (codes "begin") (omega arith) refl,
-    (
-      plain_by_test (codes "put") (omega arith) refl,
-      (
-        plain-name name can.1,
-        (plain-hex_of bytes, (plain-decimal profile (omega (arith, can.0.0)), tt)),
-      ),
-    ),
-  );
-  some = omega arith;
-  spells = (
-    hex_of bytes,
-    decimal profile,
-    refl,
-    hex-hex_of bytes can.0.1.1,
-    number-decimal 8 profile can.0.0 (omega (arith, can.0.0)),
-  );
-}
-
--- those of a symbol that is altered
-alter_spelling : (provider object stripe place symbol : ℕ) →
-    CanBeSpelled (Once (Alter provider object stripe place symbol)) →
-    IsSpelling (Once (Alter provider object stripe place symbol))
-    (words_of (Once (Alter provider object stripe place symbol)))
-alter_spelling provider object stripe place symbol can = record {
-  plain = (
-    plain_by_test (codes "alter") (omega arith) refl,
-    (
-      plain-decimal provider (omega (arith, can.0)),
-      (
-        plain-decimal object (omega (arith, can.1)),
-        (
-          plain-decimal stripe (omega (arith, can.2)),
-          (plain-decimal place (omega (arith, can.3)), (plain-decimal symbol can.4, tt)),
-        ),
-      ),
-    ),
-  );
-  some = omega arith;
-  spells = (
-    decimal provider,
-    decimal object,
-    decimal stripe,
-    decimal place,
-    decimal symbol,
-    refl,
-    number-decimal 32 provider can.0 (omega (arith, can.0)),
-    number-decimal 64 object can.1 (omega (arith, can.1)),
-    number-decimal 32 stripe can.2 (omega (arith, can.2)),
-    number-decimal 32 place can.3 (omega (arith, can.3)),
-    number-decimal 128 symbol can.4 can.4,
-  );
-}
-
--- those of a block that is lost
-lose_spelling : (provider object stripe : ℕ) → CanBeSpelled (Once (Lose provider object stripe)) →
-    IsSpelling (Once (Lose provider object stripe)) (words_of (Once (Lose provider object stripe)))
-lose_spelling provider object stripe can = record {
-  plain = (
-    plain_by_test (codes "lose") (omega arith) refl,
-    (
-      plain-decimal provider (omega (arith, can.0)),
-      (plain-decimal object (omega (arith, can.1)), (plain-decimal stripe (omega (arith, can.2)), tt)),
-    ),
-  );
-  some = omega arith;
-  spells = (
-    decimal provider,
-    decimal object,
-    decimal stripe,
-    refl,
-    number-decimal 32 provider can.0 (omega (arith, can.0)),
-    number-decimal 64 object can.1 (omega (arith, can.1)),
-    number-decimal 32 stripe can.2 (omega (arith, can.2)),
-  );
-}
-
--- those of any command
-word_spelling : (command : Instruction) → CanBeSpelled command → IsSpelling command (words_of command)
-word_spelling (Once (Init s)) can = init_spelling s can
-word_spelling (Once Reopen) can =
-    record {
-      plain = (plain_by_test (codes "reopen") (omega arith) refl, tt);
-      some = omega arith;
-      spells = refl;
-    }
-word_spelling (Once Names) can =
-    record {
-      plain = (plain_by_test (codes "list") (omega arith) refl, tt);
-      some = omega arith;
-      spells = refl;
-    }
-word_spelling (Once (Begin kind)) can = job_spelling kind can
-word_spelling (Once (Step job)) can = record {
-  plain = (plain_by_test (codes "step") (omega arith) refl, (plain-decimal job (omega (arith, can)), tt));
-  some = omega arith;
-  spells = (decimal job, refl, number-decimal 32 job can (omega (arith, can)));
-}
-word_spelling (RunJob job) can = record {
-  plain = (plain_by_test (codes "run") (omega arith) refl, (plain-decimal job (omega (arith, can)), tt));
-  some = omega arith;
-  spells = (decimal job, refl, number-decimal 32 job can (omega (arith, can)));
-}
-word_spelling (Once (Alter provider object stripe place symbol)) can =
-    alter_spelling provider object stripe place symbol can
-word_spelling (Once (Lose provider object stripe)) can = lose_spelling provider object stripe can
-word_spelling (Once (Stop picks)) can = record {
-  plain = (plain_by_test (codes "stop") (omega arith) refl, (plain-hex_of picks, tt));
-  some = omega arith;
-  spells = (hex_of picks, refl, hex-hex_of picks can);
-}
-word_spelling (Once Continue) can = absurd can
-word_spelling (Once (BeginAt profile name bytes)) can = put_at_spelling profile name bytes can
-word_spelling (Once BeginScrub) can =
-    record {
-      plain = (
-        plain_by_test (codes "begin") (omega arith) refl,
-        (plain_by_test (codes "scrub") (omega arith) refl, tt),
-      );
-      some = omega arith;
-      spells = refl;
-    }
-word_spelling (Once BeginPack) can =
-    record {
-      plain = (
-        plain_by_test (codes "begin") (omega arith) refl,
-        (plain_by_test (codes "pack") (omega arith) refl, tt),
-      );
-      some = omega arith;
-      spells = refl;
-    }
+-- and they spell it
+words_spell : (command : Instruction) → CanBeSpelled command → SpellsCommand (words_of command) command
+words_spell (Once (Init s)) can = (
+  decimal s.n,
+  decimal s.l,
+  decimal s.b,
+  decimal s.profile,
+  decimal s.rounds,
+  decimal s.picks,
+  decimal s.tolerance,
+  encode_lower s.master,
+  refl,
+  number-decimal 8 s.n can.0 (omega (arith, can.0)),
+  number-decimal 8 s.l can.1 (omega (arith, can.1)),
+  number-decimal 8 s.b can.2 (omega (arith, can.2)),
+  number-decimal 8 s.profile can.3 (omega (arith, can.3)),
+  number-decimal 8 s.rounds can.4 (omega (arith, can.4)),
+  number-decimal 8 s.picks can.5 (omega (arith, can.5)),
+  number-decimal 16 s.tolerance can.6 (omega (arith, can.6)),
+  key-encode s.master can.7,
+)
+words_spell (Once (Begin (PutJob name bytes))) can = (hex_of bytes, refl, hex-hex_of bytes can.0.1)
+words_spell (Once (BeginAt profile name bytes)) can = (
+  hex_of bytes,
+  decimal profile,
+  refl,
+  hex-hex_of bytes can.0.1.1,
+  number-decimal 8 profile can.0.0 (omega (arith, can.0.0)),
+)
+words_spell (Once (Step job)) can = (decimal job, refl, number-decimal 32 job can (omega (arith, can)))
+words_spell (RunJob job) can = (decimal job, refl, number-decimal 32 job can (omega (arith, can)))
+words_spell (Once (Alter provider object stripe place symbol)) can = (
+  decimal provider,
+  decimal object,
+  decimal stripe,
+  decimal place,
+  decimal symbol,
+  refl,
+  number-decimal 32 provider can.0 (omega (arith, can.0)),
+  number-decimal 64 object can.1 (omega (arith, can.1)),
+  number-decimal 32 stripe can.2 (omega (arith, can.2)),
+  number-decimal 32 place can.3 (omega (arith, can.3)),
+  number-decimal 128 symbol can.4 can.4,
+)
+words_spell (Once (Lose provider object stripe)) can = (
+  decimal provider,
+  decimal object,
+  decimal stripe,
+  refl,
+  number-decimal 32 provider can.0 (omega (arith, can.0)),
+  number-decimal 64 object can.1 (omega (arith, can.1)),
+  number-decimal 32 stripe can.2 (omega (arith, can.2)),
+)
+words_spell (Once (Stop picks)) can = (hex_of picks, refl, hex-hex_of picks can)
+words_spell (Once Continue) can = absurd can
+words_spell (Once event) can = refl
 
 -- ---- a whole schedule
 
@@ -337,9 +168,9 @@ pub spelling_is : (commands : List Instruction) → AllByRecursion CanBeSpelled 
 spelling_is [] can = inl (tt, refl)
 spelling_is (command ∷ commands) can =
     let ws = words_of command in
-    let line = word_spelling command can.0 in
-    let split = lines-line (body ws) (schedule_bytes commands) (body_line ws line.some line.plain) in
+    let plain = words_plain command can.0 in
     let spells : SpellsCommand (words (body ws)) command =
-    subst (λ (t : List Word). SpellsCommand t command) (sym (words-body ws line.plain)) line.spells in
-    subst (λ (ls : List (List ℕ)). AreLines ls (command ∷ commands)) (sym split)
+    rw (words-body ws plain) (words_spell command can.0) in
+    let ends = body_line ws (words_some command can.0) plain in
+    rw (lines-line (body ws) (schedule_bytes commands) ends)
     (inr (command, commands, refl, spells, spelling_is commands can.1))

@@ -15,9 +15,7 @@ AreLines-once (line ∷ ls) commands others (inl a) (inr b) =
 AreLines-once (line ∷ ls) commands others (inr a) (inl b) =
     absurd (spelled-not_skipped (words line) a.0 b.0 a.3)
 AreLines-once (line ∷ ls) commands others (inr a) (inr b) =
-    let first : a.0 ≡ b.0 = Spells-once (words line) a.0 b.0 a.3 b.3 in
-    let more : a.1 ≡ b.1 = AreLines-once ls a.1 b.1 a.4 b.4 in
-    a.2 ∙ ap (λ (c : Instruction). c ∷ a.1) first ∙ ap (λ (cs : List Instruction). b.0 ∷ cs) more ∙ sym b.2
+    cc (a.2, Spells-once (words line) a.0 b.0 a.3 b.3, AreLines-once ls a.1 b.1 a.4 b.4, b.2)
 
 -- a line outside the grammar spoils all
 bad_excluded : (before : List (List ℕ)) (line : List ℕ) (behind : List (List ℕ)) (commands : List Instruction)
@@ -30,8 +28,7 @@ bad_excluded (x ∷ before) line behind commands bad (inr a) = bad_excluded befo
 -- a text with a bad line is no schedule
 pub first_bad_excluded : (text : List ℕ) (number : ℕ) (commands : List Instruction) →
     IsFirstBadLine text number → IsSchedule text commands → ⊥
-first_bad_excluded text number commands bad all =
-    bad_excluded bad.before bad.line bad.behind commands bad.bad
+first_bad_excluded text number commands bad all = bad_excluded bad.before bad.line bad.behind commands bad.bad
     (subst (λ (ls : List (List ℕ)). AreLines ls commands) bad.lines_are all)
 
 -- the first line outside the grammar is one
@@ -46,18 +43,18 @@ fronts-same (z ∷ a) x c [] y d same good_a bad_x good_b bad_y =
     let head : z ≡ y = cc in
     absurd (bad_y (subst IsLine head good_a.0))
 fronts-same (z ∷ a) x c (w ∷ b) y d same good_a bad_x good_b bad_y =
-    let tail : a ++ x ∷ c ≡ b ++ y ∷ d = cc in
-    ap (λ (n : ℕ). suc n) (fronts-same a x c b y d tail good_a.1 bad_x good_b.1 bad_y)
+    ap (λ (n : ℕ). suc n) (fronts-same a x c b y d (cc) good_a.1 bad_x good_b.1 bad_y)
 
 -- a text has one first bad line
 pub first_bad-once : (text : List ℕ) (number other : ℕ) → IsFirstBadLine text number →
     IsFirstBadLine text other → number ≡ other
 first_bad-once text number other a b =
-    a.number_is
-    ∙ ap (λ (n : ℕ). n + 1)
-    (fronts-same a.before a.line a.behind b.before b.line b.behind
-    (sym a.lines_are ∙ b.lines_are) a.good a.bad b.good b.bad)
-    ∙ sym b.number_is
+    let same = sym a.lines_are ∙ b.lines_are in
+    cc (
+      a.number_is,
+      fronts-same a.before a.line a.behind b.before b.line b.behind same a.good a.bad b.good b.bad,
+      b.number_is,
+    )
 
 -- ---- one line more
 
@@ -76,14 +73,13 @@ AreLines-push [] line commands command before spelled =
     inr (command, [], ap (λ (cs : List Instruction). cs ++ command ∷ []) before, spelled, refl)
 AreLines-push (x ∷ front) line commands command (inl a) spelled =
     inl (a.0, AreLines-push front line commands command a.1 spelled)
-AreLines-push (x ∷ front) line commands command (inr a) spelled =
-    inr (
-      a.0,
-      a.1 ++ command ∷ [],
-      ap (λ (cs : List Instruction). cs ++ command ∷ []) a.2,
-      a.3,
-      AreLines-push front line a.1 command a.4 spelled,
-    )
+AreLines-push (x ∷ front) line commands command (inr a) spelled = inr (
+  a.0,
+  a.1 ++ command ∷ [],
+  ap (λ (cs : List Instruction). cs ++ command ∷ []) a.2,
+  a.3,
+  AreLines-push front line a.1 command a.4 spelled,
+)
 
 AreLines-good : (front : List (List ℕ)) (commands : List Instruction) → AreLines front commands →
     AllByRecursion IsLine front
@@ -111,8 +107,7 @@ pub record HasRead (text : List ℕ) (left : Option (List ℕ)) (number : ℕ)
 more_parts : (text rest line : List ℕ) (behind : Option (List ℕ)) (front : List (List ℕ)) →
     lines text ≡ front ++ lines rest → lines rest ≡ line ∷ lines_behind behind
     → lines text ≡ (front ++ line ∷ []) ++ lines_behind behind
-more_parts text rest line behind front parts first =
-    parts ∙ ap (λ (ls : List (List ℕ)). front ++ ls) first
+more_parts text rest line behind front parts first = parts ∙ ap (λ (ls : List (List ℕ)). front ++ ls) first
     ∙ sym (append_assoc front (line ∷ []) (lines_behind behind))
 
 less_left : (number total rest : ℕ) (behind : Option (List ℕ)) → number + (rest + 1) ≤ total →

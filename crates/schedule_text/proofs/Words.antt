@@ -19,14 +19,14 @@ pub use Rattle.hex.proofs.HexLemmas.{decode_of-encode_lower, IsOk-decode_sized, 
 pub use Rattle.hex.specs.Hex.{decode_of, decode_sized, encode_lower, is_hex_digit, lower_digits}
 unfoldable pub use Rattle.hex.specs.Hex.{encode_with}
 pub use Rattle.machine_defs.specs.Events.{Alter, Begin, BeginAt, BeginPack, BeginScrub, Continue, Init, Lose, Names, Reopen, Step, Stop}
-pub use Rattle.machine_defs.specs.Jobs.{AuditJob, DropJob, GetJob, Kind, PutJob, RepairJob, UpgradeJob}
+pub use Rattle.machine_defs.specs.Jobs.{AuditJob, DropJob, GetJob, PutJob, RepairJob, UpgradeJob}
 pub use Rattle.machine_defs.specs.Transcripts.{Instruction, Once, RunJob}
 pub use Rattle.memchr.specs.Find.{Nowhere, Passes}
 pub use Rattle.record_codec.proofs.Fields.{bind_some, done, some_is}
 pub use Rattle.record_defs.specs.Records.{is_master, Setup}
 pub use Rattle.schedule_text.specs.Answers.{IsCauseOf, lines_behind, without_return}
 pub use Rattle.schedule_text.specs.Events.{commands_of, event_command, put_command}
-pub use Rattle.schedule_text.specs.Grammar.{begun_piece, has_bytes, IsHex, IsKey, IsNumber, IsSkipped, pieces, SpellsCommand, SpellsInit, Word, words}
+pub use Rattle.schedule_text.specs.Grammar.{begun_piece, has_bytes, IsHex, IsKey, IsNumber, IsSkipped, pieces, SpellsCommand, Word, words}
 pub use Rattle.schedule_text.specs.Reading.{bytes_in, FailsToRead, found_in, Gives, is_number_word, key_in, number_in, only_command, only_if, word_at}
 unfoldable pub use Rattle.schedule_text.specs.Reading.{alter_at, apart_at, begin_at, begun_at, behind_at, bytes_at, drop_words_at, get_at, init_at, key_at, line_at, lose_at, number_word_at, numeral_at, profile_at, put_at, run_at, setup_words_at, step_at, stop_at}
 pub use Rattle.schedule_text.specs.Schedules.{AreLines, IsFirstBadLine, IsLine, IsSchedule, lines, without_returns}

@@ -5,9 +5,8 @@ use Rattle.machine_defs.specs.Refusals.{Refusal, first_refusal}
 
 -- what is barred, runs or runs alone, in the order of the refusals
 abbrev refused_by : Bool → List Job → Option Alone → Option Refusal
-refused_by barred jobs alone =
-    first_refusal (record { applies = barred; refusal = refusal.MustReopen }
-    ∷ record { applies = nat_lt 0 (length jobs) || is_some alone; refusal = refusal.Busy } ∷ [])
+refused_by barred jobs alone = first_refusal (record { applies = barred; refusal = refusal.MustReopen } ∷
+    record { applies = nat_lt 0 (length jobs) || is_some alone; refusal = refusal.Busy } ∷ [])
 
 -- none of it applies in a state at rest
 pub none-refused : (w : State) → IsOpenAtRest w 1 → alone_refusal w [] ≡ None

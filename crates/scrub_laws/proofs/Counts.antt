@@ -3,8 +3,7 @@ use Rattle.scrub_laws.proofs.Words.{◌≡◌, ℕ, ◌==◌, ◌&&◌, List, []
 
 -- how many symbols of a provider's block of a place differ, as it is looked up
 abbrev pub off_given : (ℕ → Object) → List Given → ℕ → Place → ℕ
-off_given objects given j p =
-    differs (block_given given p.object p.stripe j)
+off_given objects given j p = differs (block_given given p.object p.stripe j)
     (column_of_symbols (objects p.object) (symbols_given given p.object p.stripe) j p.stripe)
 
 -- 1 where any does
@@ -19,8 +18,7 @@ module _ (objects : ℕ → Object) (given : List Given) (j : ℕ) where
   -- a fetch of another place changes nothing here
   pub off-fetched : (k o s : ℕ) (block : Option (List ℕ)) (p : Place) → IsElsewhere o s p →
       off_given objects (Fetched k o s block ∷ given) j p ≡ off_given objects given j p
-  off-fetched k o s block p n =
-      ap (λ b. differs b
+  off-fetched k o s block p n = ap (λ b. differs b
       (column_of_symbols (objects p.object) (symbols_given given p.object p.stripe) j p.stripe))
       (cond_false ((k == j) && (o == p.object) && (s == p.stripe)) block
       (block_given given p.object p.stripe j)
@@ -34,10 +32,9 @@ module _ (objects : ℕ → Object) (given : List Given) (j : ℕ) where
   -- nor does an opening of another place
   pub off-worked : (o s : ℕ) (symbols : List ℕ) (p : Place) → IsElsewhere o s p →
       off_given objects (Worked o s symbols ∷ given) j p ≡ off_given objects given j p
-  off-worked o s symbols p n =
-      ap (λ ss. differs (block_given given p.object p.stripe j)
-      (column_of_symbols (objects p.object) ss j p.stripe))
-      (cond_false ((o == p.object) && (s == p.stripe)) symbols (symbols_given given p.object p.stripe)
+  off-worked o s symbols p n = ap (λ ss. differs (block_given given p.object p.stripe j)
+      (column_of_symbols (objects p.object) ss j p.stripe)) (cond_false ((o == p.object) && (s == p.stripe))
+      symbols (symbols_given given p.object p.stripe)
       (elim (cases_Bool ((o == p.object) && (s == p.stripe))) [
         | inl t ↦ absurd (let a = and_parts (o == p.object) (s == p.stripe) t in
             n (eqb-true o p.object a.0, eqb-true s p.stripe a.1))

@@ -1,12 +1,12 @@
 -- How a scrub ends that ran alone, by its last step.
-use Rattle.scrub_laws.proofs.Words.{◌≡◌, ℕ, ◌+◌, ◌<◌, ◌≤◌, ◌==◌, ◌⊎◌, List, [], ◌∷◌, ◌++◌, length, map, None, refl, ap, sym, subst, ◌∙◌, inl, inr, arith, flat_map, eq-eqb, append-nil, Object, LosesRow, Provider, StoreCounts, Scrubs, StepsScrub, new_scrub, Action, WriteBody, SyncBody, WriteGate, SyncGate, Store, Fetch, Ask, Work, Remove, End, open_actions, Answer, Step, Ended, blocks_given, Happens, now, State, Scrub, setup_in, with_provider, cond_true, GoesOnTo, ran_from, Place, LosesAtPlace, everyone, ScrubGives, ScrubLeaves, RunsScrub, IsOpenAtRest, calls-at, Rises, rises-same, fetches_at, FetchesAll, OpensAll, made-rises}
+use Rattle.scrub_laws.proofs.Words.{◌≡◌, ℕ, ◌+◌, ◌<◌, ◌≤◌, ◌==◌, ◌⊎◌, List, [], ◌∷◌, ◌++◌, length, map, None, refl, ap, sym, subst, ◌∙◌, inl, inr, arith, flat_map, eq-eqb, append-nil, Object, LosesRow, Provider, StoreCounts, Scrubs, StepsScrub, new_scrub, Action, Store, Fetch, Work, End, open_actions, Answer, Step, Ended, blocks_given, Happens, now, State, Scrub, setup_in, with_provider, cond_true, GoesOnTo, ran_from, Place, LosesAtPlace, everyone, ScrubGives, ScrubLeaves, RunsScrub, IsOpenAtRest, calls-at, Rises, rises-same, fetches_at, FetchesAll, OpensAll, made-rises}
 use Rattle.device_defs.specs.Faults.{Rose}
 use Rattle.device_defs.proofs.Lasting.{rose-before}
 use Rattle.machine_defs.specs.Answers as answer
 use Rattle.scrub_laws.specs.Ended.{IsPastScrub, IsOfScrub}
 use Rattle.scrub_laws.proofs.Leaving.{some-part, lost-at, sweeps-all, leaves-all}
 use Rattle.scrub_laws.proofs.Lines.{Part, part_place, part_actions, parts-open, parts-fetch}
-use Rattle.scrub_laws.proofs.Sweeps.{IsMine, IsFetchOf, x, all, opens, at, past, Facts, object-is, Where, next-fetch, Stepped, steps-scrub, steps-sweep, begins-sweep}
+use Rattle.scrub_laws.proofs.Sweeps.{x, all, opens, at, past, Facts, object-is, Where, next-fetch, Stepped, steps-scrub, steps-sweep, begins-sweep}
 
 -- how a scrub ended
 pub record Ended_by (start new : State) (how : Answer) : Type 0 where
@@ -72,10 +72,9 @@ module _ (start : State) (O : IsOpenAtRest start 1) where
 
       rose-one : Rose (ps k).store_faults q.store_faults →
           Rose (start.providers k).store_faults (np k).store_faults
-      rose-one rose =
-          subst (λ (z : Provider). Rose (start.providers k).store_faults z.store_faults)
-          (sym (cond_true (k == k) q (ps k) (eq-eqb k k refl)))
-          (rose-before (start.providers k).store_faults (ps k).store_faults q.store_faults
+      rose-one rose = subst (λ (z : Provider). Rose (start.providers k).store_faults z.store_faults)
+          (sym (cond_true (k == k) q (ps k) (eq-eqb k k refl))) (rose-before (start.providers k).store_faults
+          (ps k).store_faults q.store_faults
           (made-rises (x start O) acts start.providers ps [] scrub.given k F.made).0 counts.store_faults rose)
 
       ended-one : (how : Answer) → new ≡ past start O np →
@@ -90,14 +89,13 @@ module _ (start : State) (O : IsOpenAtRest start 1) where
         Scrubs (at start O scrub ps) scrub (Work p.object p.stripe) (opens start O rest) (Ended how) new →
         Ended_by start new how
     unfolding setup_in
-    by-work p rest parts front (answer.Lost u row) places_are split acts_are fetches (same, loses, is) =
-        ended-still (answer.Lost u row) is
-        (subst (λ t. LosesAtPlace (ran_from start (past start O ps) []) everyone t row) (sym same)
-        (lost-at start O scrub ps acts sofar F ps (λ j. refl) (λ j. refl) p rest row split
-        (subst (λ qs. OpensAll (setup_in start) qs acts) (append-nil (map part_place parts) ∙ sym places_are)
-        (subst (OpensAll (setup_in start) (map part_place parts ++ [])) (sym acts_are)
-        (parts-open (setup_in start) parts [] front tt)))
-        (subst (λ qs. FetchesAll (setup_in start) (qs ++ p ∷ []) acts) (sym places_are)
+    by-work p rest parts front (answer.Lost u row) places_are split acts_are fetches (same, loses, is)
+        = ended-still (answer.Lost u row) is (subst (λ t. LosesAtPlace (ran_from start (past start O ps) [])
+        everyone t row) (sym same) (lost-at start O scrub ps acts sofar F ps (λ j. refl) (λ j. refl) p rest
+        row split (subst (λ qs. OpensAll (setup_in start) qs acts) (append-nil (map part_place parts) ∙
+        sym places_are) (subst (OpensAll (setup_in start) (map part_place parts ++ [])) (sym acts_are)
+        (parts-open (setup_in start) parts [] front tt))) (subst (λ qs. FetchesAll (setup_in start)
+        (qs ++ p ∷ []) acts) (sym places_are)
         (subst (FetchesAll (setup_in start) (map part_place parts ++ p ∷ [])) (sym acts_are)
         (parts-fetch (setup_in start) parts (p ∷ []) front (
           [],
@@ -110,11 +108,6 @@ module _ (start : State) (O : IsOpenAtRest start 1) where
         (blocks_given scrub.given n p.object p.stripe) row)
         (object-is start O scrub ps acts sofar F p.object) loses))) tt
     by-work p rest parts front how places_are split acts_are fetches h = absurd h
-
-    by-fetch : (p : Place) (a : Action) (left : List Action) (how : Answer) → IsFetchOf p a →
-        Scrubs (at start O scrub ps) scrub a left (Ended how) new → Ended_by start new how
-    by-fetch p (Fetch k o t) left how it h = absurd h
-    by-fetch p a left how it h = absurd it
 
     module _ (p : Place) (rest : List Place) (parts : List Part) (stores : List Action)
         (places_are : sofar ≡ map part_place parts ++ p ∷ []) (split : all start O ≡ sofar ++ rest)
@@ -144,25 +137,18 @@ module _ (start : State) (O : IsOpenAtRest start 1) where
                 (held-one k q below fails.held fails.counts) (count-one k q below fails.held fails.counts)
                 rest split opens-here,
           )) tt
-      failed k o t left answer.Memory below (q, finds, is) =
-          ended-one k q below finds.held finds.counts answer.Memory is
-          (some-part start O scrub ps acts sofar F (with_provider ps k q)
-          (held-one k q below finds.held finds.counts) (count-one k q below finds.held finds.counts)
-          rest split opens-here) tt
+      failed k o t left answer.Memory below (q, finds, is) = ended-one k q below finds.held finds.counts
+          answer.Memory is (some-part start O scrub ps acts sofar F (with_provider ps k q)
+          (held-one k q below finds.held finds.counts) (count-one k q below finds.held finds.counts) rest
+          split opens-here) tt
       failed k o t left how below h = absurd h
-
-      by-store : (a : Action) (left : List Action) (how : Answer) → IsMine n p a →
-          Scrubs (at start O scrub ps) scrub a left (Ended how) new → Ended_by start new how
-      by-store (Store k o t) left how it h = failed k o t left how it.0 h
-      by-store a left how it h = absurd it
 
     by-end : (parts : List Part) (how : Answer) → sofar ≡ map part_place parts → all start O ≡ sofar →
         acts ≡ flat_map (part_actions (setup_in start)) parts → scrub.todo ≡ End ∷ [] →
         Scrubs (at start O scrub ps) scrub End [] (Ended how) new → Ended_by start new how
     unfolding setup_in
     by-end parts (answer.Scrubbed stripes off blocks) places_are whole acts_are last
-        (stripes_is, off_is, blocks_are, is) =
-        ended-still (answer.Scrubbed stripes off blocks) is
+        (stripes_is, off_is, blocks_are, is) = ended-still (answer.Scrubbed stripes off blocks) is
         (sweeps-all start O scrub ps acts sofar F ps (λ j. refl) (λ j. refl) stripes off blocks whole last
         (subst (λ qs. OpensAll (setup_in start) qs acts) (append-nil (map part_place parts) ∙ sym places_are)
         (subst (OpensAll (setup_in start) (map part_place parts ++ []))
@@ -176,23 +162,22 @@ module _ (start : State) (O : IsOpenAtRest start 1) where
     by-last how (Where.opening parts p rest front [] places_are split acts_are fetches todo) h =
         by-work p rest parts front how places_are split acts_are fetches
         (subst (λ l. StepsScrub (at start O scrub ps) scrub l (Ended how) new) todo h)
+    by-last how (Where.opening parts p rest front (Fetch k o t ∷ back) places_are split acts_are fetches todo) h =
+        absurd (subst (λ l. StepsScrub (at start O scrub ps) scrub l (Ended how) new) todo h)
     by-last how (Where.opening parts p rest front (a ∷ back) places_are split acts_are fetches todo) h =
-        by-fetch p a (back ++ Work p.object p.stripe ∷ opens start O rest) how
-        (next-fetch start O p front a back fetches)
+        absurd (next-fetch start O p front a back fetches)
+    by-last how (Where.storing parts p rest stores (Store k o t) left places_are split acts_are mine todo) h =
+        failed p rest parts stores places_are split acts_are k o t (left ++ opens start O rest) how mine.0.0
         (subst (λ l. StepsScrub (at start O scrub ps) scrub l (Ended how) new) todo h)
-    by-last how (Where.storing parts p rest stores a left places_are split acts_are mine todo) h =
-        by-store p rest parts stores places_are split acts_are a (left ++ opens start O rest) how mine.0
-        (subst (λ l. StepsScrub (at start O scrub ps) scrub l (Ended how) new) todo h)
-    by-last how (Where.ending parts places_are whole acts_are todo) h =
-        by-end parts how places_are whole acts_are todo
-        (subst (λ l. StepsScrub (at start O scrub ps) scrub l (Ended how) new) todo h)
+    by-last how (Where.storing parts p rest stores a left places_are split acts_are mine todo) h = absurd mine.0
+    by-last how (Where.ending parts places_are whole acts_are todo) h = by-end parts how places_are whole
+        acts_are todo (subst (λ l. StepsScrub (at start O scrub ps) scrub l (Ended how) new) todo h)
 
   -- a scrub that ran alone
   pub scrub-ends : (new : State) (moment : ℕ) (how : Answer) → RunsScrub start moment how new →
       Ended_by start new how
   unfolding setup_in
-  scrub-ends new moment how r =
-      (let b = r.begins in
+  scrub-ends new moment how r = (let b = r.begins in
       let g : GoesOnTo (at start O (new_scrub start moment) start.providers) (moment + 1) start.next_job how []
       new = subst (λ (w : State). GoesOnTo w (moment + 1) start.next_job how [] new) b.3
       (subst (λ k. GoesOnTo r.begun (moment + 1) k how [] new) b.2 r.goes_on) in

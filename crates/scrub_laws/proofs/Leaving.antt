@@ -1,5 +1,5 @@
 -- What a scrub leaves that ran alone, by its last step.
-use Rattle.scrub_laws.proofs.Words.{◌≡◌, ℕ, ◌<◌, ◌≤◌, ◌⊎◌, List, [], ◌∷◌, ◌++◌, length, map, Option, None, Some, refl, ap, sym, subst, ◌∙◌, inl, inr, arith, All, Contains, sum_by, IfSome, option_map, Each, In, in_contains, upto, Object, GivesSymbols, LosesRow, Held, Provider, sized, RepairJob, Given, Action, WriteBody, SyncBody, WriteGate, SyncGate, Store, Fetch, Ask, Work, Remove, End, Answer, block_given, blocks_given, symbols_given, pinned_profile, now, State, Scrub, Doubt, setup_in, Ran, ran_from, object_numbered, EachHeldGoes, Place, Gave, blocks_at, held_at, IsTruth, GivesPlace, RewrittenOn, PartlyRewrittenOn, IfFlagged, RewritesPart, RewritesSome, LosesAtPlace, everyone, SweepsAll, ScrubGives, ScrubLeaves, IsOpenAtRest, Made, object_made, Called, made-keeps, Rises, rises-more, IsBelow, called-below, all-each, each-parts, IsRepairing, column_at, after, after-either, after-none, after-some, Told, made-told, works-opened, FetchesAll, OpensAll, opens-fetches, told-places, lacks-places, gives-places, no-stores, made-rises}
+use Rattle.scrub_laws.proofs.Words.{◌≡◌, ℕ, ◌<◌, ◌≤◌, ◌⊎◌, List, [], ◌∷◌, ◌++◌, length, map, Option, None, Some, refl, ap, sym, subst, ◌∙◌, inl, inr, arith, All, Contains, sum_by, IfSome, option_map, Each, In, in_contains, upto, Object, GivesSymbols, LosesRow, Held, Provider, sized, RepairJob, Given, Action, Store, Fetch, Ask, Remove, End, Answer, block_given, blocks_given, symbols_given, pinned_profile, now, State, Scrub, Doubt, setup_in, Ran, ran_from, object_numbered, EachHeldGoes, Place, Gave, blocks_at, held_at, IsTruth, GivesPlace, RewrittenOn, PartlyRewrittenOn, IfFlagged, RewritesPart, RewritesSome, LosesAtPlace, everyone, SweepsAll, ScrubGives, ScrubLeaves, IsOpenAtRest, Made, object_made, Called, made-keeps, Rises, rises-more, IsBelow, called-below, all-each, each-parts, IsRepairing, column_at, after, after-either, after-none, after-some, Told, made-told, works-opened, FetchesAll, OpensAll, opens-fetches, told-places, lacks-places, gives-places, no-stores, made-rises}
 use Rattle.device_defs.specs.Told.{Goes}
 use Rattle.command_defs.specs.Truthful.{IsTruthful}
 use Rattle.job_laws.proofs.Profiles.{made-numbered}
@@ -70,8 +70,7 @@ module _ (start : State) (O : IsOpenAtRest start 1) (scrub : Scrub) (ps : ℕ �
       where
         tells : (j : ℕ) → j < n → (held : Held) → (start.providers j).held ≡ Some held →
             IsTruthful (gave j) (held_at ran held) qs (start.providers j).other_faults (np j).other_faults
-        tells j below held e =
-            subst (λ (objs : ℕ → Object). IsTruthful (gave j)
+        tells j below held e = subst (λ (objs : ℕ → Object). IsTruthful (gave j)
             (λ p. sized (objs p.object).profile.size (held p.object p.stripe)) qs
             (start.providers j).other_faults (np j).other_faults) objects-are
             (let t = told j held e in record {
@@ -91,12 +90,11 @@ module _ (start : State) (O : IsOpenAtRest start 1) (scrub : Scrub) (ps : ℕ �
 
     opened : (qs : List Place) → OpensAll (setup_in start) qs acts → All (GivesPlace ran gave symbols) qs
     unfolding setup_in
-    opened qs o = subst (λ (objs : ℕ → Object). All
-        (λ p. GivesSymbols (objs p.object) p.stripe (blocks_at ran gave p) (symbols p)) qs) objects-are
-        (all-each (λ p. GivesSymbols (made p.object) p.stripe (blocks_at ran gave p) (symbols p)) qs
-        (gives-places (x start O) scrub.given qs acts o
-        (works-opened (x start O) acts start.providers ps [] scrub.given
-        (ordered-front acts scrub.todo F.ordered) made-acts)))
+    opened qs o = subst (λ (objs : ℕ → Object). All (λ p. GivesSymbols (objs p.object) p.stripe
+        (blocks_at ran gave p) (symbols p)) qs) objects-are (all-each
+        (λ p. GivesSymbols (made p.object) p.stripe (blocks_at ran gave p) (symbols p)) qs
+        (gives-places (x start O) scrub.given qs acts o (works-opened (x start O) acts start.providers ps []
+        scrub.given (ordered-front acts scrub.todo F.ordered) made-acts)))
 
     -- what a provider holds now
     now-held : (j : ℕ) (held : Held) → (start.providers j).held ≡ Some held →
@@ -116,8 +114,7 @@ module _ (start : State) (O : IsOpenAtRest start 1) (scrub : Scrub) (ps : ℕ �
 
     same-elsewhere : (j : ℕ) (held : Held) (p : Place) → (Contains sofar p → ⊥) →
         after (x start O) scrub.given j acts held p.object p.stripe ≡ held p.object p.stripe
-    same-elsewhere j held p none =
-        after-none (x start O) scrub.given j acts held p.object p.stripe
+    same-elsewhere j held p none = after-none (x start O) scrub.given j acts held p.object p.stripe
         (no-stores (job start O) n sofar j p.object p.stripe acts (λ h. none (in_contains sofar p h.1))
         F.stored)
 
@@ -125,14 +122,12 @@ module _ (start : State) (O : IsOpenAtRest start 1) (scrub : Scrub) (ps : ℕ �
     rewritten-part :
         EachHeldGoes ran (λ j. IfFlagged (everyone j) (PartlyRewrittenOn (object_numbered ran) symbols sofar j))
     unfolding setup_in
-    rewritten-part =
-        subst (λ (objs : ℕ → Object). EachHeldGoes ran
+    rewritten-part = subst (λ (objs : ℕ → Object). EachHeldGoes ran
         (λ j. IfFlagged (everyone j) (PartlyRewrittenOn objs symbols sofar j))) objects-are
         (goes-by (λ j. PartlyRewrittenOn made symbols sofar j) (λ j held below e. record {
-          stored = all-each (λ (p : Place). (after (x start O) scrub.given j acts held p.object p.stripe
-              ≡ held p.object p.stripe) ⊎
-              (after (x start O) scrub.given j acts held p.object p.stripe
-              ≡ Some (column_at (x start O) scrub.given j p.object p.stripe))) sofar (each-place j held sofar);
+          stored = all-each (λ (p : Place). (after (x start O) scrub.given j acts held p.object p.stripe ≡
+              held p.object p.stripe) ⊎ (after (x start O) scrub.given j acts held p.object p.stripe ≡ Some
+              (column_at (x start O) scrub.given j p.object p.stripe))) sofar (each-place j held sofar);
           others = λ p none. same-elsewhere j held p none;
         }))
       where
@@ -197,8 +192,7 @@ module _ (start : State) (O : IsOpenAtRest start 1) (scrub : Scrub) (ps : ℕ �
         | inr z ↦ elim (after-either (x start O) scrub.given j acts held p.object p.stripe) [
           | inr column ↦ column
           | inl same ↦ same ∙ own-block (made p.object) (gave j p) (held p.object p.stripe) (symbols p) j
-              p.stripe
-              (some-size (pinned_profile (setup_in start).profile (x start O).pinned p.object)) t.0 z
+              p.stripe (some-size (pinned_profile (setup_in start).profile (x start O).pinned p.object)) t.0 z
         ]
       ],
       own-columns j held e below last qs h.1 t.1,
@@ -226,15 +220,12 @@ module _ (start : State) (O : IsOpenAtRest start 1) (scrub : Scrub) (ps : ℕ �
           ∙ ap (λ qs. map (λ j. sum_by (block_off (object_numbered ran) scrub.given j) qs) (upto n))
           (sym whole)));
       held = subst (λ (objs : ℕ → Object). EachHeldGoes ran (RewrittenOn objs symbols (all start O)))
-          objects-are
-          (subst (λ qs. EachHeldGoes ran (RewrittenOn made symbols qs)) (sym whole)
+          objects-are (subst (λ qs. EachHeldGoes ran (RewrittenOn made symbols qs)) (sym whole)
           (goes-by (RewrittenOn made symbols sofar) (λ j held below e. record {
-            stored = all-each (λ (p : Place). after (x start O) scrub.given j acts held p.object p.stripe
-                ≡ Some (column_at (x start O) scrub.given j p.object p.stripe)) sofar
-                (own-columns j held e below last sofar F.settled
-                (told-places (x start O) refl scrub.given j held below sofar acts
-                (opens-fetches (setup_in start) sofar acts o)
-                (told j held e).told));
+            stored = all-each (λ (p : Place). after (x start O) scrub.given j acts held p.object p.stripe ≡
+                Some (column_at (x start O) scrub.given j p.object p.stripe)) sofar
+                (own-columns j held e below last sofar F.settled (told-places (x start O) refl scrub.given j
+                held below sofar acts (opens-fetches (setup_in start) sofar acts o) (told j held e).told));
             others = λ p none. same-elsewhere j held p none;
           })));
     }
@@ -260,15 +251,8 @@ module _ (start : State) (O : IsOpenAtRest start 1) (scrub : Scrub) (ps : ℕ �
     unfolding setup_in
     leaves-all how gives = record {
       gives = gives;
-      records = record {
-        after = refl;
-        sure = ap (option_map (λ (d : Doubt). d.entry)) O.rest.undoubted;
-      };
+      records = record { after = refl; sure = ap (option_map (λ (d : Doubt). d.entry)) O.rest.undoubted };
       heard = refl;
-      counts = record {
-        disk = omega arith;
-        stores = λ j. (rises-all j).0;
-        others = λ j. (rises-all j).1;
-      };
+      counts = record { disk = omega arith; stores = λ j. (rises-all j).0; others = λ j. (rises-all j).1 };
       others = others-all;
     }

@@ -1,6 +1,6 @@
 -- The line of actions of a scrub: those that it made, and those that it has to do. The opening of a place puts
 -- its stores into it.
-use Rattle.scrub_laws.proofs.Words.{◌≡◌, ℕ, List, [], ◌∷◌, ◌++◌, map, refl, ap, sym, subst, ◌∙◌, inl, inr, flat_map, append_assoc, Each, In, each_append, each_mono, Provider, Setup, Given, Action, WriteBody, SyncBody, WriteGate, SyncGate, Store, Fetch, Ask, Work, Remove, End, open_actions, Place, With, Did, Made, each-front, IsNoneOf, IsBefore, AreOrdered, fetches_at, FetchesAll, OpensAll}
+use Rattle.scrub_laws.proofs.Words.{◌≡◌, ℕ, List, [], ◌∷◌, ◌++◌, map, refl, ap, sym, subst, ◌∙◌, inl, inr, flat_map, append_assoc, Each, In, each_append, each_mono, Provider, Setup, Given, Action, Store, Fetch, Work, open_actions, Place, With, Did, Made, each-front, IsNoneOf, IsBefore, AreOrdered, fetches_at, FetchesAll, OpensAll}
 use Rattle.job_laws.proofs.Heard.{IsNot}
 
 -- one more action was made
@@ -76,9 +76,8 @@ module _ (o s : ℕ) (stores rest : List Action) (on : Each (IsStoreOn o s) stor
       AreOrdered (ys ++ rest)
   stores-first [] h none r = r
   stores-first (Store k p t ∷ ys) h none r = (
-    subst (λ n. Each (IsNoneOf n t) (ys ++ rest)) (sym h.0.0)
-        (subst (λ n. Each (IsNoneOf o n) (ys ++ rest)) (sym h.0.1)
-        (each_append (IsNoneOf o s) ys rest
+    subst (λ n. Each (IsNoneOf n t) (ys ++ rest)) (sym h.0.0) (subst (λ n. Each (IsNoneOf o n) (ys ++ rest))
+        (sym h.0.1) (each_append (IsNoneOf o s) ys rest
         (each_mono (IsStoreOn o s) (IsNoneOf o s) ys (λ y u. on-none o s o s y u) h.1) none)),
     stores-first ys h.1 none r,
   )

@@ -1,5 +1,5 @@
 -- A scrub that runs alone: what it has made and counted, and what it has to do, after each of its steps.
-use Rattle.scrub_laws.proofs.Words.{◌≡◌, ℕ, ◌+◌, ◌<◌, ◌==◌, ◌⊎◌, false, cond, List, [], ◌∷◌, ◌++◌, length, length-append, map, Option, None, Some, refl, ap, sym, subst, ◌∙◌, inl, inr, arith, sum_by, flat_map, cases_Bool, eq-eqb, eqb-true, append_assoc, append-nil, map-append, sum_by_push, Each, In, each_append, each_flat, each_map, each_middle, each_mono, in_left, in_right, upto, Object, column_of_symbols, GivesSymbols, Provider, Fetches, Stores, Setup, differs, scrubbed_object, off_by, scrub_stores, opened_scrub, block_to_scrub, Scrubs, StepsScrub, scrub_actions, new_scrub, RepairJob, Pinned, Given, Fetched, Job, Action, WriteBody, SyncBody, WriteGate, SyncGate, Store, Fetch, Ask, Work, Remove, End, open_actions, on_each_stripe, rewrite_actions, Step, More, Outcome, block_given, blocks_given, symbols_given, pinned_profile, Happens, Moment, now, State, Scrub, Scrubbing, setup_in, with_provider, symbols_given-newest, AreSteps, Place, places, everyone, IsOpenAtRest, With, CallsOne, Made, object_made, IsBelow, each-upto, held-sizes, AreOrdered, IsRepairing, fetches_at, actions_at, repairs-places, IsElse, AreApart, all-apart, ordered-places, IsStoreOf, stores-wider}
+use Rattle.scrub_laws.proofs.Words.{◌≡◌, ℕ, ◌+◌, ◌<◌, ◌==◌, ◌⊎◌, false, cond, List, [], ◌∷◌, ◌++◌, length, length-append, map, Option, None, Some, refl, ap, sym, subst, ◌∙◌, inl, inr, arith, sum_by, flat_map, cases_Bool, eq-eqb, eqb-true, append_assoc, append-nil, map-append, sum_by_push, Each, In, each_append, each_flat, each_map, each_middle, each_mono, in_left, in_right, upto, Object, column_of_symbols, GivesSymbols, Provider, Fetches, Stores, Setup, differs, scrubbed_object, off_by, scrub_stores, opened_scrub, block_to_scrub, StepsScrub, scrub_actions, new_scrub, RepairJob, Pinned, Given, Fetched, Job, Action, Store, Fetch, Work, End, open_actions, on_each_stripe, rewrite_actions, Step, More, Outcome, block_given, blocks_given, symbols_given, pinned_profile, Happens, Moment, now, State, Scrub, Scrubbing, setup_in, with_provider, symbols_given-newest, AreSteps, Place, places, everyone, IsOpenAtRest, With, CallsOne, Made, object_made, IsBelow, each-upto, held-sizes, AreOrdered, IsRepairing, fetches_at, actions_at, repairs-places, IsElse, AreApart, all-apart, ordered-places, IsStoreOf, stores-wider}
 use Rattle.std.proofs.lemmas.Grind.{flat_map-append}
 use Rattle.record_defs.specs.Table.{files_of}
 use Rattle.machine_defs.specs.Begins.{pin_all}
@@ -212,8 +212,7 @@ module _ (start : State) (O : IsOpenAtRest start 1) where
 
     new-line : acts ++ Work o t ∷ (scrub_stores (at scrub ps) scrub o t symbols ++ rest)
         ≡ (acts ++ Work o t ∷ []) ++ next.todo
-    new-line = sym (append_assoc acts (Work o t ∷ [])
-        (scrub_stores (at scrub ps) scrub o t symbols ++ rest))
+    new-line = sym (append_assoc acts (Work o t ∷ []) (scrub_stores (at scrub ps) scrub o t symbols ++ rest))
 
     same-off : (j : ℕ) → Each (λ p. off scrub.given j p ≡ off next.given j p) sofar
     same-off j = each_mono (IsElsewhere o t) (λ p. off scrub.given j p ≡ off next.given j p) sofar
@@ -242,13 +241,11 @@ module _ (start : State) (O : IsOpenAtRest start 1) where
       number = F.number;
       made = made-more x acts (Work o t) start.providers ps ps [] scrub.given next.given F.made
           (symbols, gives, refl, refl);
-      ordered = subst AreOrdered new-line
-          (ordered-put o t (scrub_stores (at scrub ps) scrub o t symbols) rest on acts
-          (subst AreOrdered line F.ordered));
+      ordered = subst AreOrdered new-line (ordered-put o t (scrub_stores (at scrub ps) scrub o t symbols) rest
+          on acts (subst AreOrdered line F.ordered));
       repairing = each_append IsRepairing acts (Work o t ∷ []) F.repairing (tt, tt);
-      below = subst (Each (IsBelow s.n)) new-line
-          (each-put (IsBelow s.n) acts (Work o t) (scrub_stores (at scrub ps) scrub o t symbols) rest
-          (subst (Each (IsBelow s.n)) line F.below)
+      below = subst (Each (IsBelow s.n)) new-line (each-put (IsBelow s.n) acts (Work o t)
+          (scrub_stores (at scrub ps) scrub o t symbols) rest (subst (Each (IsBelow s.n)) line F.below)
           (subst (Each (IsBelow s.n)) (sym stores-are)
           (stores-each off_now o t (IsBelow s.n) s.n (λ j l. l))));
       stored = each_append (IsStoreOf job s.n (sofar ++ here ∷ [])) acts (Work o t ∷ [])
@@ -290,8 +287,7 @@ module _ (start : State) (O : IsOpenAtRest start 1) where
   -- the fetches, the work and the rest of a list of places
   opens-more : (p : Place) (ps : List Place) →
       opens (p ∷ ps) ≡ fetches_at s p ++ Work p.object p.stripe ∷ opens ps
-  opens-more p ps =
-      append_assoc (open_actions s p.object p.stripe)
+  opens-more p ps = append_assoc (open_actions s p.object p.stripe)
       (flat_map (λ (q : Place). open_actions s q.object q.stripe) ps) (End ∷ [])
       ∙ append_assoc (fetches_at s p) (Work p.object p.stripe ∷ []) (opens ps)
 
@@ -313,9 +309,8 @@ module _ (start : State) (O : IsOpenAtRest start 1) where
       Each (IsMine s.n p) left → scrub.todo ≡ left ++ opens rest → Where scrub acts sofar
   go-on scrub acts sofar parts p rest stores (a ∷ left) places_are split acts_are mine todo =
       Where.storing parts p rest stores a left places_are split acts_are mine todo
-  go-on scrub acts sofar parts p rest stores [] places_are split acts_are mine todo =
-      turn scrub acts sofar (parts ++ done ∷ []) rest
-      (places_are ∙ sym (map-append part_place parts (done ∷ []))) split
+  go-on scrub acts sofar parts p rest stores [] places_are split acts_are mine todo = turn scrub acts sofar
+      (parts ++ done ∷ []) rest (places_are ∙ sym (map-append part_place parts (done ∷ []))) split
       (acts_are ∙ (ap (λ l. flat_map (part_actions s) parts ++ l) (sym (append-nil (part_actions s done)))
       ∙ sym (flat_map-append (part_actions s) parts (done ∷ [])))) todo
     where
@@ -348,50 +343,23 @@ module _ (start : State) (O : IsOpenAtRest start 1) where
     pub is : new ≡ at scrub providers
     pub sweeps : Sweeps scrub providers
 
-  step-fetch : (scrub : Scrub) (ps : ℕ → Provider) (acts : List Action) (sofar : List Place)
-      (F : Facts scrub ps acts sofar) (parts : List Part) (p : Place) (rest : List Place)
-      (front back : List Action) (a : Action) (new : State) → IsFetchOf p a → sofar ≡ map part_place parts →
-      all ≡ sofar ++ p ∷ rest → acts ≡ flat_map (part_actions s) parts ++ front →
-      fetches_at s p ≡ front ++ a ∷ back → scrub.todo ≡ a ∷ (back ++ Work p.object p.stripe ∷ opens rest) →
-      Scrubs (at scrub ps) scrub a (back ++ Work p.object p.stripe ∷ opens rest) More new → Stepped new
-  step-fetch scrub ps acts sofar F parts p rest front back (Fetch k o t) new it places_are split acts_are
-      fetches todo (block, (q, call, is)) = record {
-        scrub = record scrub {
-          todo = back ++ Work p.object p.stripe ∷ opens rest;
-          given = Fetched k o t block ∷ scrub.given;
-        };
-        providers = with_provider ps k q;
-        is = is;
-        sweeps = record {
-          acts = acts ++ Fetch k o t ∷ [];
-          sofar = sofar;
-          facts = facts-fetched scrub ps (with_provider ps k q) acts sofar k o t
-              (back ++ Work p.object p.stripe ∷ opens rest) block F todo
-              (subst (λ n. Each (IsElsewhere n t) sofar) (sym it.0)
-              (subst (λ n. Each (IsElsewhere p.object n) sofar) (sym it.1) (apart-at sofar p rest split))) (
-                q,
-                subst (λ (z : Object). Fetches z.profile.size o t (ps k) block q)
-                    (object-is scrub ps acts sofar F o) call,
-                refl,
-              );
-          stands = Where.opening parts p rest (front ++ Fetch k o t ∷ []) back places_are split
-              (ap (λ l. l ++ Fetch k o t ∷ []) acts_are
-              ∙ append_assoc (flat_map (part_actions s) parts) front (Fetch k o t ∷ []))
-              (fetches ∙ sym (append_assoc front (Fetch k o t ∷ []) back)) refl;
-        };
-      }
-  step-fetch scrub ps acts sofar F parts p rest front back a new it places_are split acts_are fetches todo h =
-      absurd it
+  -- the fetches of a place
+  fetches-of : (p : Place) → Each (IsFetchOf p) (fetches_at s p)
+  fetches-of p = each_map (IsFetchOf p) (λ j. Fetch j p.object p.stripe) (upto s.n) (λ j. (refl, refl))
 
-  step-work : (scrub : Scrub) (ps : ℕ → Provider) (acts : List Action) (sofar : List Place)
-      (F : Facts scrub ps acts sofar) (parts : List Part) (p : Place) (rest : List Place)
-      (front : List Action) (new : State) → sofar ≡ map part_place parts → all ≡ sofar ++ p ∷ rest →
-      acts ≡ flat_map (part_actions s) parts ++ front → fetches_at s p ≡ front ++ [] →
-      scrub.todo ≡ Work p.object p.stripe ∷ opens rest →
-      Scrubs (at scrub ps) scrub (Work p.object p.stripe) (opens rest) More new → Stepped new
+  -- the next one of them
+  pub next-fetch : (p : Place) (front : List Action) (a : Action) (back : List Action) →
+      fetches_at s p ≡ front ++ a ∷ back → IsFetchOf p a
+  next-fetch p front a back e =
+      each_middle (IsFetchOf p) front a back (subst (Each (IsFetchOf p)) e (fetches-of p))
+
+  step-by : (scrub : Scrub) (ps : ℕ → Provider) (acts : List Action) (sofar : List Place)
+      (F : Facts scrub ps acts sofar) (new : State) → Where scrub acts sofar →
+      StepsScrub (at scrub ps) scrub scrub.todo More new → Stepped new
   unfolding setup_in
-  step-work scrub ps acts sofar F parts p rest front new places_are split acts_are fetches todo
-      (symbols, gives, is) = record {
+  step-by scrub ps acts sofar F new
+      (Where.opening parts p rest front [] places_are split acts_are fetches todo) h =
+      (let (symbols, gives, is) = subst (λ l. StepsScrub (at scrub ps) scrub l More new) todo h in record {
         scrub = opened_scrub (at scrub ps) scrub p.object p.stripe (opens rest) symbols;
         providers = ps;
         is = is;
@@ -399,8 +367,7 @@ module _ (start : State) (O : IsOpenAtRest start 1) where
           acts = acts ++ Work p.object p.stripe ∷ [];
           sofar = sofar ++ p ∷ [];
           facts = facts-worked scrub ps acts sofar p.object p.stripe (opens rest) symbols F todo
-              (apart-at sofar p rest split)
-              (subst (λ (z : Object). GivesSymbols z p.stripe
+              (apart-at sofar p rest split) (subst (λ (z : Object). GivesSymbols z p.stripe
               (blocks_given scrub.given s.n p.object p.stripe) symbols)
               (object-is scrub ps acts sofar F p.object) gives);
           stands = go-on (opened_scrub (at scrub ps) scrub p.object p.stripe (opens rest) symbols)
@@ -415,17 +382,41 @@ module _ (start : State) (O : IsOpenAtRest start 1) where
               (stores-mine scrub ps acts sofar p.object p.stripe (opens rest) symbols F todo
               (apart-at sofar p rest split)) refl;
         };
-      }
-
-  step-store : (scrub : Scrub) (ps : ℕ → Provider) (acts : List Action) (sofar : List Place)
-      (F : Facts scrub ps acts sofar) (parts : List Part) (p : Place) (rest : List Place)
-      (stores : List Action) (a : Action) (left : List Action) (new : State) →
-      sofar ≡ map part_place parts ++ p ∷ [] → all ≡ sofar ++ rest →
-      acts ≡ flat_map (part_actions s) parts ++ (open_actions s p.object p.stripe ++ stores) →
-      IsMine s.n p a → Each (IsMine s.n p) left → scrub.todo ≡ a ∷ (left ++ opens rest) →
-      Scrubs (at scrub ps) scrub a (left ++ opens rest) More new → Stepped new
-  step-store scrub ps acts sofar F parts p rest stores (Store k o t) left new places_are split acts_are it
-      mine todo (q, call, is) = record {
+      })
+  step-by scrub ps acts sofar F new
+      (Where.opening parts p rest front (Fetch k o t ∷ back) places_are split acts_are fetches todo) h =
+      (let (block, (q, call, is)) = subst (λ l. StepsScrub (at scrub ps) scrub l More new) todo h in record {
+        scrub = record scrub {
+          todo = back ++ Work p.object p.stripe ∷ opens rest;
+          given = Fetched k o t block ∷ scrub.given;
+        };
+        providers = with_provider ps k q;
+        is = is;
+        sweeps = record {
+          acts = acts ++ Fetch k o t ∷ [];
+          sofar = sofar;
+          facts = facts-fetched scrub ps (with_provider ps k q) acts sofar k o t
+              (back ++ Work p.object p.stripe ∷ opens rest) block F todo
+              (subst (λ n. Each (IsElsewhere n t) sofar) (sym (next-fetch p front (Fetch k o t) back fetches).0)
+              (subst (λ n. Each (IsElsewhere p.object n) sofar)
+              (sym (next-fetch p front (Fetch k o t) back fetches).1) (apart-at sofar p rest split))) (
+                q,
+                subst (λ (z : Object). Fetches z.profile.size o t (ps k) block q)
+                    (object-is scrub ps acts sofar F o) call,
+                refl,
+              );
+          stands = Where.opening parts p rest (front ++ Fetch k o t ∷ []) back places_are split
+              (ap (λ l. l ++ Fetch k o t ∷ []) acts_are
+              ∙ append_assoc (flat_map (part_actions s) parts) front (Fetch k o t ∷ []))
+              (fetches ∙ sym (append_assoc front (Fetch k o t ∷ []) back)) refl;
+        };
+      })
+  step-by scrub ps acts sofar F new
+      (Where.opening parts p rest front (a ∷ back) places_are split acts_are fetches todo) h =
+      absurd (next-fetch p front a back fetches)
+  step-by scrub ps acts sofar F new
+      (Where.storing parts p rest stores (Store k o t) left places_are split acts_are mine todo) h =
+      (let (q, call, is) = subst (λ l. StepsScrub (at scrub ps) scrub l More new) todo h in record {
         scrub = record scrub { todo = left ++ opens rest };
         providers = with_provider ps k q;
         is = is;
@@ -433,11 +424,11 @@ module _ (start : State) (O : IsOpenAtRest start 1) where
           acts = acts ++ Store k o t ∷ [];
           sofar = sofar;
           facts = facts-stored scrub ps (with_provider ps k q) acts sofar k o t (left ++ opens rest) F todo (
-            it.0,
+            mine.0.0,
             refl,
             subst (In (record { object = o; stripe = t })) (sym places_are)
                 (in_right (map part_place parts) (p ∷ []) (record { object = o; stripe = t })
-                (inl (λ i. record { object = it.1.0 i; stripe = it.1.1 i }))),
+                (inl (λ i. record { object = mine.0.1.0 i; stripe = mine.0.1.1 i }))),
           ) (q, call, refl);
           stands = go-on (record scrub { todo = left ++ opens rest }) (acts ++ Store k o t ∷ []) sofar parts p rest
               (stores ++ Store k o t ∷ []) left places_are split
@@ -445,38 +436,11 @@ module _ (start : State) (O : IsOpenAtRest start 1) where
               ∙ (append_assoc (flat_map (part_actions s) parts) (open_actions s p.object p.stripe ++ stores)
               (Store k o t ∷ [])
               ∙ ap (λ l. flat_map (part_actions s) parts ++ l)
-              (append_assoc (open_actions s p.object p.stripe) stores (Store k o t ∷ [])))) mine refl;
+              (append_assoc (open_actions s p.object p.stripe) stores (Store k o t ∷ [])))) mine.1 refl;
         };
-      }
-  step-store scrub ps acts sofar F parts p rest stores a left new places_are split acts_are it mine todo h =
-      absurd it
-
-  -- the fetches of a place
-  fetches-of : (p : Place) → Each (IsFetchOf p) (fetches_at s p)
-  fetches-of p = each_map (IsFetchOf p) (λ j. Fetch j p.object p.stripe) (upto s.n) (λ j. (refl, refl))
-
-  -- the next one of them
-  pub next-fetch : (p : Place) (front : List Action) (a : Action) (back : List Action) →
-      fetches_at s p ≡ front ++ a ∷ back → IsFetchOf p a
-  next-fetch p front a back e =
-      each_middle (IsFetchOf p) front a back (subst (Each (IsFetchOf p)) e (fetches-of p))
-
-  step-by : (scrub : Scrub) (ps : ℕ → Provider) (acts : List Action) (sofar : List Place)
-      (F : Facts scrub ps acts sofar) (new : State) → Where scrub acts sofar →
-      StepsScrub (at scrub ps) scrub scrub.todo More new → Stepped new
+      })
   step-by scrub ps acts sofar F new
-      (Where.opening parts p rest front [] places_are split acts_are fetches todo) h =
-      step-work scrub ps acts sofar F parts p rest front new places_are split acts_are fetches todo
-      (subst (λ l. StepsScrub (at scrub ps) scrub l More new) todo h)
-  step-by scrub ps acts sofar F new
-      (Where.opening parts p rest front (a ∷ back) places_are split acts_are fetches todo) h =
-      step-fetch scrub ps acts sofar F parts p rest front back a new (next-fetch p front a back fetches)
-      places_are split acts_are fetches todo
-      (subst (λ l. StepsScrub (at scrub ps) scrub l More new) todo h)
-  step-by scrub ps acts sofar F new
-      (Where.storing parts p rest stores a left places_are split acts_are mine todo) h =
-      step-store scrub ps acts sofar F parts p rest stores a left new places_are split acts_are mine.0 mine.1
-      todo (subst (λ l. StepsScrub (at scrub ps) scrub l More new) todo h)
+      (Where.storing parts p rest stores a left places_are split acts_are mine todo) h = absurd mine.0
   step-by scrub ps acts sofar F new (Where.ending parts places_are split acts_are todo) h =
       absurd (subst (λ l. StepsScrub (at scrub ps) scrub l More new) todo h)
 
@@ -484,9 +448,8 @@ module _ (start : State) (O : IsOpenAtRest start 1) where
   pub steps-scrub : (scrub : Scrub) (ps : ℕ → Provider) (k : ℕ) (outcome : Outcome) (new : State) →
       scrub.number ≡ start.next_job → Happens 8 k (at scrub ps) (Step start.next_job) outcome new →
       StepsScrub (at scrub ps) scrub scrub.todo outcome new
-  steps-scrub scrub ps k outcome new number h =
-      subst (λ b. StepsMine (at scrub ps) start.next_job (Scrubbing scrub) b outcome new)
-      (eq-eqb scrub.number start.next_job number)
+  steps-scrub scrub ps k outcome new number h = subst (λ b. StepsMine (at scrub ps) start.next_job
+      (Scrubbing scrub) b outcome new) (eq-eqb scrub.number start.next_job number)
       (subst (λ b. StepsOpen (at scrub ps) start.next_job b outcome new) O.rest.idle.2
       (subst (λ b. Steps (at scrub ps) start.next_job b outcome new) O.opened h))
 
@@ -516,9 +479,8 @@ module _ (start : State) (O : IsOpenAtRest start 1) where
 
   -- what a scrub has to do at its begin are the openings of all places, and the end
   todo-is : scrub_actions s (pin_all start (files_of start.records)) ≡ opens all
-  todo-is = ap (λ l. l ++ End ∷ [])
-      ((λ i. flat_map (λ (f : Pinned). on_each_stripe (profiled s f.profile) (length f.bytes)
-      (λ t. sym (plain f.id t) i)) (pin_all start (files_of start.records)))
+  todo-is = ap (λ l. l ++ End ∷ []) ((λ i. flat_map (λ (f : Pinned). on_each_stripe (profiled s f.profile)
+      (length f.bytes) (λ t. sym (plain f.id t) i)) (pin_all start (files_of start.records)))
       ∙ (repairs-places s start quiet (files_of start.records) refl (held-sizes start O)
       ∙ (λ i. flat_map (λ (p : Place). plain p.object p.stripe i) all)))
 
@@ -526,9 +488,8 @@ module _ (start : State) (O : IsOpenAtRest start 1) where
   quiet-is = (λ i. flat_map (λ (p : Place). plain p.object p.stripe i) all ++ End ∷ [])
 
   below-opens : Each (IsBelow s.n) (opens all)
-  below-opens = each_append (IsBelow s.n)
-      (flat_map (λ (p : Place). open_actions s p.object p.stripe) all) (End ∷ [])
-      (each_flat (IsBelow s.n) (λ (p : Place). open_actions s p.object p.stripe) all
+  below-opens = each_append (IsBelow s.n) (flat_map (λ (p : Place). open_actions s p.object p.stripe) all)
+      (End ∷ []) (each_flat (IsBelow s.n) (λ (p : Place). open_actions s p.object p.stripe) all
       (λ p. each_append (IsBelow s.n) (fetches_at s p) (Work p.object p.stripe ∷ [])
       (each-upto (IsBelow s.n) (λ j. Fetch j p.object p.stripe) 0 s.n (λ k l. omega (arith, l))) (tt, tt)))
       (tt, tt)

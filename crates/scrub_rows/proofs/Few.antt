@@ -8,8 +8,7 @@ use Rattle.hail_scrub.specs.Views.{ScrubView}
 
 -- the file at a place has the number behind it, and six providers
 abbrev pub AreNumbered : List FileShape → Type 0
-AreNumbered files =
-    (k : ℕ) (f : FileShape) → slice_get files k ≡ Some f → (f.id ≡ k + 1) × (f.shape.n ≡ 6)
+AreNumbered files = (k : ℕ) (f : FileShape) → slice_get files k ≡ Some f → (f.id ≡ k + 1) × (f.shape.n ≡ 6)
 
 -- no file
 pub none_numbered : (files : List FileShape) → files ≡ [] → AreNumbered files
@@ -19,8 +18,7 @@ none_numbered files is k f there =
 -- a file with this number and six providers
 same_file : (x f : FileShape) (n : ℕ) → Some x ≡ Some f → x.id ≡ n → x.shape.n ≡ 6 →
     (f.id ≡ n) × (f.shape.n ≡ 6)
-same_file x f n is id six =
-    (let h : x ≡ f = cc in
+same_file x f n is id six = (let h : x ≡ f = cc in
     (ap (λ (z : FileShape). z.id) (sym h) ∙ id, ap (λ (z : FileShape). z.shape.n) (sym h) ∙ six))
 
 one_at : (x : FileShape) → x.id ≡ 1 → x.shape.n ≡ 6 → AreNumbered (x ∷ [])

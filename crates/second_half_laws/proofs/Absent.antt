@@ -11,7 +11,7 @@ agrees_seen : (o : Object) (j stripe place v : ℕ) (seen opened : SeenBlock) �
     is_seen v (symbol_in place opened) ≡ true → is_some seen ≡ true
 unfolding is_seen_over
 agrees_seen o j stripe place v None opened e h =
-    absurd (false≢true (ap (λ (x : SeenBlock). is_seen v (symbol_in place x)) (sym e) ∙ h))
+    absurd (false≢true (ap (λ x. is_seen v (symbol_in place x)) (sym e) ∙ h))
 agrees_seen o j stripe place v (Some block) opened e h = refl
 
 -- an accepted row is the file's own where at most b of the blocks that are there are wrong
@@ -24,23 +24,23 @@ pub own_row : (o : Object) (bytes : List ℕ) (number stripe place : ℕ) (seen 
 own_row o bytes number stripe place seen opened p is shape row few opens accepted =
     elim (same_or_other (values_at (upto o.shape.l) p) (primary_row o (symbols_in o bytes stripe) place)) [
       | inl same ↦ same
-      | inr other ↦ absurd (too_few
-          (forgery-of_other o bytes number (λ s. seen) stripe place opened p is shape row opens accepted
-          other))
+      | inr other ↦ absurd (too_few (forgery-of_other o bytes number (λ s. seen) stripe place opened p is
+          shape row opens accepted other))
     ]
   where
     too_few : IsStripeForgery o bytes (λ s. seen) stripe place → ⊥
-    too_few f =
-        (let w = count_of-within
-        (λ j. is_agreeing o f.opened place f.row j && is_wrong_block o bytes j stripe (block_at seen j))
-        (λ j. is_wrong_seen o bytes j stripe (block_at seen j)) 0 o.shape.n
-        (λ j l h. (let q = and_parts (is_agreeing o f.opened place f.row j)
-        (is_wrong_block o bytes j stripe (block_at seen j)) h in
-        and_from (is_some (block_at seen j)) (is_wrong_block o bytes j stripe (block_at seen j))
-        (agrees_seen o (0 + j) stripe place (value f.row (point o j)) (block_at seen j) (block_at f.opened j)
-        (opens-at o stripe 0 j seen f.opened f.opens) q.0) q.1)) in
-        let many = f.forged.wrong_ones in
-        omega (arith, w, many, few))
+    too_few f = (omega (
+      arith,
+      count_of-within (λ j. is_agreeing o f.opened place f.row j && is_wrong_block o bytes j
+          stripe (block_at seen j)) (λ j. is_wrong_seen o bytes j stripe (block_at seen j)) 0 o.shape.n
+          (λ j l h. (let q = and_parts (is_agreeing o f.opened place f.row j)
+          (is_wrong_block o bytes j stripe (block_at seen j)) h in
+          and_from (is_some (block_at seen j)) (is_wrong_block o bytes j stripe (block_at seen j))
+          (agrees_seen o (0 + j) stripe place (value f.row (point o j)) (block_at seen j) (block_at f.opened j)
+          (opens-at o stripe 0 j seen f.opened f.opens) q.0) q.1)),
+      f.forged.wrong_ones,
+      few,
+    ))
 
 -- symbols that blocks open to are the file's own where at most b of those that are there are wrong
 pub own_symbols : (o : Object) (bytes : List ℕ) (number stripe : ℕ) (seen : List SeenBlock)
@@ -48,9 +48,8 @@ pub own_symbols : (o : Object) (bytes : List ℕ) (number stripe : ℕ) (seen : 
     stripe < stripes o (length bytes) →
     count_of (λ j. is_wrong_seen o bytes j stripe (block_at seen j)) (upto o.shape.n) ≤ o.shape.b →
     GivesSymbols o stripe seen symbols → symbols ≡ symbols_in o bytes stripe
-own_symbols o bytes number stripe seen symbols is shape below few gives =
-    right-symbols o bytes stripe symbols gives.size
-    (λ place kept. by_row place kept (gives.accepted place kept))
+own_symbols o bytes number stripe seen symbols is shape below few gives = right-symbols o bytes stripe symbols
+    gives.size (λ place kept. by_row place kept (gives.accepted place kept))
   where
     by_row : (place : ℕ) → place < o.profile.keep → AcceptsSymbols o gives.opened place symbols →
         IsRightRow o bytes stripe symbols place

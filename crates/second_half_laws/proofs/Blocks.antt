@@ -22,7 +22,7 @@ pub since_earlier : (from to j : ℕ) (ms : List Moment) → from ≤ to → IsR
 since_earlier from to j [] l h = h
 since_earlier from to j (m ∷ ms) l h = elim (or_cases _ _ h) [
   | inl p ↦ (let q = and_parts _ _ p in
-      since_now from j m ms q.0 (let r : to ≤ length ms = leb-true to (length ms) q.1 in omega arith))
+      since_now from j m ms q.0 (omega (arith, leb-true to (length ms) q.1)))
   | inr q ↦ since_more from j m ms (since_earlier from to j ms l q)
 ]
 
@@ -55,8 +55,8 @@ telling w i o s b h = go (w.providers i).held refl h
   where
     go : (x : Option Held) → (w.providers i).held ≡ x → option_map (λ held. held o s) x ≡ Some b →
         (held : Held) × ((w.providers i).held ≡ Some held) × (held o s ≡ b)
-    go None is e = absurd (let f : None ≡ Some b = e in cc)
-    go (Some held) is e = (held, is, (let f : Some (held o s) ≡ Some b = e in cc))
+    go None is e = absurd (cc e)
+    go (Some held) is e = (held, is, (cc e))
 
 -- a provider with a bad block of a file is wrong for it
 pub bad_wrong : (w : State) (f : File) (i s : ℕ) → s < stripes (file_object w f) (length (w.bytes f.id)) →
@@ -69,19 +69,19 @@ bad_wrong w f i s below (b, told, wrong) = (let t = telling w i f.id s b told in
 -- a file that stands is the one that a put brings in, or stood before
 done_put : (b : Bool) (rest : Option File) (x f : File) → cond b (Some x) rest ≡ Some f →
     (rest ≡ Some f) ⊎ (x ≡ f)
-done_put true rest x f h = (let same : x ≡ f = cc in inr same)
+done_put true rest x f h = inr cc
 done_put false rest x f h = inl h
 
 -- a record that ends a put, of the first version and of the second
 ends_first : (rs : List Record) (k size : ℕ) (q : List ℕ) (f : File) →
     file_as q k size (profile_in (setup_of rs)) ≡ f → IsEndOfPut rs (PutDone k size) f.id f.size f.profile
-ends_first rs k size q f e = subst (λ (x : File). IsEndOfPut rs (PutDone k size) x.id x.size x.profile) e
+ends_first rs k size q f e = subst (λ x. IsEndOfPut rs (PutDone k size) x.id x.size x.profile) e
     (record { version = 1; entry_is = refl; profiled = λ first. refl })
 
 ends_second : (rs : List Record) (k size profile : ℕ) (q : List ℕ) (f : File) → file_as q k size profile ≡ f →
     IsEndOfPut rs (PutDoneIn k size profile) f.id f.size f.profile
 ends_second rs k size profile q f e =
-    subst (λ (x : File). IsEndOfPut rs (PutDoneIn k size profile) x.id x.size x.profile) e
+    subst (λ x. IsEndOfPut rs (PutDoneIn k size profile) x.id x.size x.profile) e
     (record { version = 2; entry_is = refl; profiled = λ first. absurd (false≢true (sym first)) })
 
 -- it ends the put of its number
@@ -95,7 +95,7 @@ pub same_profile : (rs : List Record) (v w a b size length p q : ℕ) →
     ((w == 2) ≡ false → q ≡ profile_in (setup_of rs)) → p ≡ q
 same_profile rs v w a b size length p q e first second = elim (cases_Bool (v == 2)) [
   | inl t ↦ elim (cases_Bool (w == 2)) [
-    | inl u ↦ (let same : PutDoneIn a size p ≡ PutDoneIn b length q = cc in let r : p ≡ q = cc in r)
+    | inl u ↦ (let same : PutDoneIn a size p ≡ PutDoneIn b length q = cc in cc)
     | inr u ↦ absurd (let same : PutDoneIn a size p ≡ PutDone b length = cc in cc)
   ]
   | inr t ↦ elim (cases_Bool (w == 2)) [
@@ -140,7 +140,7 @@ up_before r rs q f good h old new = elim (file_done r rs q f good h)
 
 -- a setup that is in effect stays so with one more record
 pub up_more : (r : Record) (rs : List Record) → is_some (setup_of rs) ≡ true → setup_of (r ∷ rs) ≡ None → ⊥
-up_more (SetUp s) rs h e = (let f : Some s ≡ None = e in cc)
+up_more (SetUp s) rs h e = cc e
 up_more r rs h e = false≢true (ap is_some (sym e) ∙ h)
 
 -- what is due was so before, or is what an audit's end flags
@@ -154,7 +154,7 @@ due_done (AuditDone number undecided counts) rs u good h = elim (cases_Bool (exc
   | inr f ↦ inl (sym (cond_false (exceeds (setup_of rs) counts)
       (Some (record { number = number; counts = counts })) (due_of rs) f) ∙ h)
 ]
-due_done (RepairDone number) rs u good h = absurd (let e : None ≡ Some u = h in cc)
+due_done (RepairDone number) rs u good h = absurd (cc h)
 due_done (Resume next audit) rs u good h = absurd good
 due_done (InEffect k size profile kept) rs u good h = absurd good
 due_done (RepairDue number counts) rs u good h = absurd good
@@ -166,14 +166,12 @@ pub none_flagged : (s : Setup) (counts : List ℕ) (j : ℕ) → exceeds (Some s
 none_flagged s [] j h = le-ltb s.tolerance 0 (omega arith)
 none_flagged s (c ∷ cs) zero h = elim (cases_Bool (nat_lt s.tolerance c)) [
   | inl t ↦ absurd (false≢true (cc))
-  | inr f ↦
-      f
+  | inr f ↦ f
 ]
-none_flagged s (c ∷ cs) (suc j) h = none_flagged s cs j
-    (elim (cases_Bool (exceeds (Some s) cs)) [
-      | inl t ↦ absurd (false≢true (sym h ∙ or_right _ _ t))
-      | inr f ↦ f
-    ])
+none_flagged s (c ∷ cs) (suc j) h = none_flagged s cs j (elim (cases_Bool (exceeds (Some s) cs)) [
+  | inl t ↦ absurd (false≢true (sym h ∙ or_right _ _ t))
+  | inr f ↦ f
+])
 
 -- before the first event no file is in effect and nothing is due
 pub no_first_file : (rs : List Record) (q : List ℕ) (f : File) → AreFirst rs → file_of rs q ≡ Some f → ⊥
@@ -182,5 +180,5 @@ no_first_file rs q f (inr p) h = (let g : None ≡ Some f = cc in cc)
 
 -- before the first event no repair is due
 pub no_first_due : (rs : List Record) (u : Due) → AreFirst rs → due_of rs ≡ Some u → ⊥
-no_first_due rs u (inl e) h = (let g : None ≡ Some u = ap due_of (sym e) ∙ h in cc)
-no_first_due rs u (inr p) h = (let g : None ≡ Some u = ap due_of (sym p.2) ∙ h in cc)
+no_first_due rs u (inl e) h = cc (ap due_of (sym e) ∙ h)
+no_first_due rs u (inr p) h = cc (ap due_of (sym p.2) ∙ h)

@@ -45,10 +45,7 @@ fit = (
     (refl, (refl, own_work)),
     (
       (refl, (refl, block_sized 3)),
-      (
-        (refl, (refl, block_sized 2)),
-        ((refl, (refl, block_sized 1)), ((refl, (refl, block_sized 0)), tt)),
-      ),
+      ((refl, (refl, block_sized 2)), ((refl, (refl, block_sized 1)), ((refl, (refl, block_sized 0)), tt))),
     ),
   ),
 )

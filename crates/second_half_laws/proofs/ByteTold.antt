@@ -1,6 +1,6 @@
 -- The put of one byte and the get of it, told by events and outcomes alone.
 use Rattle.second_half_laws.proofs.Words.{drop, refl, inl, inr, arith, PutJob, GetJob, Put, Got, Begin, Step, Reopen, Opened, Begun, Ended, actions_of, IsStart, setup_in, Moment, now, Once, RunJob, GoOn, set_up, four, stored, put_steps, state_1, state_2, state_14, state_15, job_at, given_up, ended, NoneAsksOn, NoneOn, IsUntouched, both_none, steps_begin_none, Stored, GetEnds}
-use Rattle.std.specs.Prelude.{◌≡◌, ℕ, List, [], ◌∷◌, None, Some}
+use Rattle.std.specs.Prelude.{◌≡◌, ℕ, List, [], ◌∷◌}
 use Rattle.machine_defs.proofs.PutRun.{is_run as is_stored}
 use Rattle.second_half_laws.specs.Told.{IsTold}
 use Rattle.second_half_laws.proofs.ByteRun.{get_begin, get_end, moments, steps, is_run}
@@ -34,11 +34,7 @@ put_goes_on = (
           (
             refl,
             refl,
-            (
-              refl,
-              refl,
-              (refl, refl, (refl, refl, (refl, refl, (refl, refl, (refl, refl, tt))))),
-            ),
+            (refl, refl, (refl, refl, (refl, refl, (refl, refl, (refl, refl, (refl, refl, tt)))))),
           ),
         ),
       ),
@@ -97,14 +93,10 @@ starts = record {
 
 -- none on the name runs, or is in flight or in doubt, behind the put
 none_behind : NoneOn (97 ∷ []) state_15
-none_behind = λ k j h t. (let e : None ≡ Some j = h in cc)
+none_behind = λ k j h t. (cc h)
 
 untouched : IsUntouched (97 ∷ []) state_15
-untouched = record {
-  none_runs = none_behind;
-  none_flies = λ a h. (let e : None ≡ Some a = h in cc);
-  none_takes = λ d h. (let e : None ≡ Some d = h in cc);
-}
+untouched = record { none_runs = none_behind; none_flies = λ a h. (cc h); none_takes = λ d h. (cc h) }
 
 -- all that is told
 pub all_told : IsTold stored steps get_begin get_end
@@ -120,7 +112,7 @@ all_told = record {
   put = job_at state_14 1;
   put_ends = record { event = refl; outcome = refl; runs = refl; kind = refl };
   none_before = (λ on n is. on, tt);
-  none_ran = λ k j h t. (let e : None ≡ Some j = h in cc);
+  none_ran = λ k j h t. (cc h);
   none_later = (
     λ on n is. on,
     both_none (97 ∷ []) steps (get_begin ∷ []) (steps_begin_none 2 2 (97 ∷ []) steps get_goes_on).1

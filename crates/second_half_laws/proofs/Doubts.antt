@@ -34,7 +34,7 @@ done_on : (limit : ℕ) (start : State) (m : Moment) (ms : List Moment) (x : Job
     IsWritten (now start ms) → Changes limit (length ms) (now start ms) m.event m.outcome m.state →
     setup_in m.state ≡ setup_in (now start ms) → Done start ms x entry → Done start (m ∷ ms) x entry
 done_on limit start m ms x entry N X setup d = record {
-  final = subst (λ t. Final t x entry x.kind) (sym setup) d.final;
+  final = rw (← setup) at d.final;
   made = λ p action l at. (let f = d.made p action l (cc) in
       (made_on start m ms (advanced x) (advanced x) action (later_same (advanced x)) f.0, f.1));
   came = λ gift i. came_on start m ms (advanced x) (advanced x) gift setup (later_same (advanced x))
@@ -54,7 +54,7 @@ module _ (limit : ℕ) (start : State) (m : Moment) (ms : List Moment) (A : All 
       m.state.records ≡ w.records → Done start (m ∷ ms) x a.entry
   done_now x a runs flight mine rec = (let setup = setup_same m.state w (ap setup_of rec) in
       record {
-        final = subst (λ t. Final t x a.entry x.kind) (sym setup) (F.flights a x flight (cc));
+        final = rw (← setup) at (F.flights a x flight (cc));
         made = λ p action l at. (let f = F.made.made x.number x p action runs l (cc) in
             (made_on start m ms x (advanced x) action (later_advanced x) f.0, f.1));
         came = λ gift i. came_on start m ms x (advanced x) gift setup (later_advanced x)
@@ -93,10 +93,9 @@ facts limit start clean [] run =
     record {
       made = made.start_facts start clean;
       flights = start_flights start clean;
-      doubt = λ d h. absurd (let e : None ≡ Some d = sym clean.doubt ∙ h in cc);
+      doubt = λ d h. absurd (cc (sym clean.doubt ∙ h));
     }
-facts limit start clean (m ∷ ms) run =
-    (let A = all limit start clean ms run.2 in
+facts limit start clean (m ∷ ms) run = (let A = all limit start clean ms run.2 in
     step_facts limit start m ms A (own.facts limit start clean ms run.2)
     (eff.facts limit start ms clean run.2) (facts limit start clean ms run.2)
     (changes limit (length ms) (now start ms) m.event m.outcome m.state A.numbers.idle run.1)
@@ -133,8 +132,7 @@ pub setups_stay : (limit : ℕ) (start : State) (later ms : List Moment) (s : Se
     IsRun limit start (later ++ ms) → setup_of (now start ms).records ≡ Some s →
     setup_of (now start (later ++ ms)).records ≡ Some s
 setups_stay limit start [] ms s clean run h = h
-setups_stay limit start (m ∷ later) ms s clean run h =
-    (let A = all limit start clean (later ++ ms) run.2 in
+setups_stay limit start (m ∷ later) ms s clean run h = (let A = all limit start clean (later ++ ms) run.2 in
     setup_step limit start m (later ++ ms) s A (facts limit start clean (later ++ ms) run.2)
     (changes limit (length (later ++ ms)) (now start (later ++ ms)) m.event m.outcome m.state A.numbers.idle
     run.1)

@@ -32,9 +32,9 @@ module _ (k from : ℕ) (mark : Mark) where
 
   marks_same : (start : State) (ms : List Moment) → length ms < k → AreMarks mark start ms →
       AreMarks (moved_mark k from mark) start ms
-  marks_same start [] l marks = subst (IsMark start []) (sym (unmoved [] l)) marks
+  marks_same start [] l marks = (rw (← (unmoved [] l)) at marks)
   marks_same start (m ∷ ms) l marks =
-      (subst (IsMark start (m ∷ ms)) (sym (unmoved (m ∷ ms) l)) marks.0, marks_same start ms (omega arith) marks.1)
+      ((rw (← (unmoved (m ∷ ms) l)) at marks.0), marks_same start ms (omega arith) marks.1)
 
 module _ (limit : ℕ) (mark : Mark) (start : State) (base : List Moment) (from : ℕ)
     (h : IsMarkedRun limit mark start base) (new : IsMark start base from)
@@ -78,7 +78,7 @@ module _ (limit : ℕ) (mark : Mark) (start : State) (recent older : List Moment
 
   no_fewer : (later : List Moment) → length (recent ++ older) ≤ length (later ++ (recent ++ older))
   no_fewer [] = omega arith
-  no_fewer (m ∷ later) = (let l = no_fewer later in omega arith)
+  no_fewer (m ∷ later) = omega (arith, no_fewer later)
 
   -- one event more
   calm_now : (m : Moment) (later : List Moment) → IsRun limit start (m ∷ (later ++ (recent ++ older))) →
@@ -87,8 +87,7 @@ module _ (limit : ℕ) (mark : Mark) (start : State) (recent older : List Moment
       replaced_count m.state (next (first_moments job.begun (m ∷ (later ++ (recent ++ older)))))
       (m ∷ (later ++ (recent ++ older))) ≤ (setup_in m.state).b
   unfolding next
-  calm_now m later run only few number job runs reads =
-      (let all = m ∷ (later ++ (recent ++ older)) in
+  calm_now m later run only few number job runs reads = (let all = m ∷ (later ++ (recent ++ older)) in
       let late = begun_later Relies limit start (m ∷ later) (recent ++ older) run none number job runs reads in
       let n = no_fewer later in
       let is = moved (length (recent ++ older)) (length older) mark (first_moments job.begun all)
@@ -108,8 +107,7 @@ module _ (limit : ℕ) (mark : Mark) (start : State) (recent older : List Moment
   unfolding next
   goes_on [] run scrubs only few =
       (moved_now limit mark start (recent ++ older) (length older) h new none, new)
-  goes_on (m ∷ later) run scrubs only few =
-      (let all = later ++ (recent ++ older) in
+  goes_on (m ∷ later) run scrubs only few = (let all = later ++ (recent ++ older) in
       let p = goes_on later run.2 scrubs.1 only.1 (few_before limit start m all qs h.clean run few) in
       let moment = mark_stays limit next start m all p.0 (unscrubbed limit next start all h.clean run.2 scrubs.1)
       run (length older) p.1 in
@@ -120,8 +118,7 @@ module _ (limit : ℕ) (mark : Mark) (start : State) (recent older : List Moment
           run = run;
           calm = (calm_now m later run only few, p.0.calm);
           marks = (
-            subst (IsMark start (m ∷ all)) (sym (moved (length (recent ++ older)) (length older) mark
-                (m ∷ all) (omega arith))) moment,
+            (rw (← (moved (length (recent ++ older)) (length older) mark (m ∷ all) (omega arith))) at moment),
             p.0.marks,
           );
         },

@@ -1,8 +1,7 @@
 -- What holds in every run of the record in doubt, of the begins of audits, and of moments before which no put
 -- began that works.
-use Rattle.second_half_laws.proofs.Words.{true, ◌⊎◌, refl, ap, sym, subst, ◌∙◌, inl, inr, arith, is_some, cases_Bool, cases_eq, cases_lt, and_right, and_from, eqb-true, eq-eqb, ne_eqb, false≢true, In, some-not-none, columns, exceeds, Record, Setup, SetUp, PutStart, Drop, AuditStart, AuditDone, RepairDone, Version, File, Due, setup_of, next_id, next_audit, started_as, file_of, due_of, Kind, PutJob, GetJob, DropJob, AuditJob, RepairJob, UpgradeJob, Pinned, Job, job_of, advanced, WriteBody, WriteGate, SyncGate, Store, Remove, profiled, stripes_of, State, Append, Doubt, Scrub, Scrubbing, IsStart, setup_in, object_in, worked_object, file_in, is_put_or_check, refusal_of_begin, pinned_file, beginning, pinned_profile, Writes, done_record, is_first_append, audits_drawn, next_action, block_to_store, Moment, now, is_replaced_since, newest, came, IsRun, settled_by, mark_after, since, begun_of, told_block, cond_true, cond_false, same_value, number_of, found_none, IsPlain, IsGated, Job_is, Append_is, Records_is, Block_is, Changes, some_told, changes, objects, audits, HasNumber, next_of_records, at_three, first_above, first_below, drawn_later, put_ended, done-ended, not_busy, right_false, IsFair, HasPin, is_fair, store_place, any_aim, Wrote, pinned_stands, Pins_is, pins_is, stands_quiet, setup_same, All, all, store_kinds, remove_kinds, IsEndOfPut, PrecedesPuts}
+use Rattle.second_half_laws.proofs.Words.{true, ◌⊎◌, refl, ap, sym, subst, ◌∙◌, inl, inr, arith, is_some, cases_Bool, cases_eq, cases_lt, and_right, and_from, eqb-true, eq-eqb, ne_eqb, false≢true, In, some-not-none, columns, exceeds, Record, Setup, SetUp, AuditDone, RepairDone, File, Due, setup_of, next_id, next_audit, started_as, file_of, due_of, Kind, PutJob, GetJob, DropJob, AuditJob, RepairJob, UpgradeJob, Pinned, Job, job_of, advanced, WriteBody, WriteGate, SyncGate, Store, Remove, profiled, stripes_of, State, Append, Doubt, Scrub, Scrubbing, IsStart, setup_in, object_in, worked_object, file_in, is_put_or_check, refusal_of_begin, pinned_file, beginning, pinned_profile, Writes, done_record, is_first_append, audits_drawn, next_action, block_to_store, Moment, now, is_replaced_since, newest, came, IsRun, settled_by, mark_after, since, begun_of, told_block, cond_true, cond_false, same_value, number_of, found_none, IsPlain, IsGated, Job_is, Append_is, Records_is, Block_is, Changes, some_told, changes, objects, audits, HasNumber, next_of_records, at_three, first_above, first_below, drawn_later, put_ended, done-ended, by_version, not_busy, right_false, HasPin, is_fair, store_place, any_aim, Wrote, pinned_stands, Pins_is, pins_is, stands_quiet, setup_same, All, all, store_kinds, remove_kinds, IsEndOfPut, PrecedesPuts}
 use Rattle.std.proofs.Common.{◌≡◌, ℕ, suc, ◌+◌, ◌≤◌, ◌<◌, ◌==◌, false, List, [], ◌∷◌, length, Option, Some, None}
-use Rattle.machine_defs.specs.Refusals as refusal
 use Rattle.machine_defs.proofs.Numbers as num
 use Rattle.machine_defs.proofs.Pins.{Stands}
 use Rattle.machine_defs.proofs.RecordFacts.{AreSound}
@@ -30,69 +29,60 @@ pub record AtGate (w : State) (d : Doubt) : Type 0 where
   pub next : next_action w job ≡ Some SyncGate
 
 -- what holds in every run
-pub record Always (start : State) (ms : List Moment) : Type 0 where
-  pub gated : IsGated (now start ms)
-  pub setup_doubt : (d : Doubt) (s : Setup) → (now start ms).doubt ≡ Some d → d.entry ≡ SetUp s →
-      setup_of (now start ms).records ≡ None
+pub record AlwaysAt (start : State) (ms : List Moment) (w : State) : Type 0 where
+  pub gated : IsGated w
+  pub setup_doubt : (d : Doubt) (s : Setup) → w.doubt ≡ Some d → d.entry ≡ SetUp s → setup_of w.records ≡ None
   pub profiles : prof.Facts start ms
-  pub put_held : (d : Doubt) (id : ℕ) → (now start ms).doubt ≡ Some d → put_ended d.entry ≡ Some id →
-      PutHeld (now start ms) id (length ms) d.maker
-  pub put_columns : (d : Doubt) (id size profile i s : ℕ) (b : Option (List ℕ)) →
-      (now start ms).doubt ≡ Some d → IsEndOfPut (now start ms).records d.entry id size profile →
-      i < (setup_in (now start ms)).n →
-      s < stripes_of (profiled (setup_in (now start ms)) profile) (length ((now start ms).bytes id)) →
-      is_replaced_since (begun_of d.maker) i ms ≡ false → told_block (now start ms) i id s ≡ Some b →
-      b ≡ Some (columns (object_in (now start ms) profile id) ((now start ms).bytes id) i s)
-  pub put_own : (d : Doubt) (id size profile k : ℕ) (x : Job) (name bytes : List ℕ) →
-      (now start ms).doubt ≡ Some d → IsEndOfPut (now start ms).records d.entry id size profile →
-      job_of (now start ms).jobs k ≡ Some x → x.kind ≡ PutJob name bytes →
+  pub put_held : (d : Doubt) (id : ℕ) → w.doubt ≡ Some d → put_ended d.entry ≡ Some id →
+      PutHeld w id (length ms) d.maker
+  pub put_columns : (d : Doubt) (id size profile i s : ℕ) (b : Option (List ℕ)) → w.doubt ≡ Some d →
+      IsEndOfPut w.records d.entry id size profile → i < (setup_in w).n →
+      s < stripes_of (profiled (setup_in w) profile) (length (w.bytes id)) →
+      is_replaced_since (begun_of d.maker) i ms ≡ false → told_block w i id s ≡ Some b →
+      b ≡ Some (columns (object_in w profile id) (w.bytes id) i s)
+  pub put_own : (d : Doubt) (id size profile k : ℕ) (x : Job) (name bytes : List ℕ) → w.doubt ≡ Some d →
+      IsEndOfPut w.records d.entry id size profile → job_of w.jobs k ≡ Some x → x.kind ≡ PutJob name bytes →
       4 ≤ x.place → x.subject ≡ id → x.profile ≡ profile
-  pub lone_open : (scrub : Scrub) → (now start ms).alone ≡ Some (Scrubbing scrub) →
-      (now start ms).is_open ≡ true
-  pub lone_sure : (scrub : Scrub) (d : Doubt) → (now start ms).alone ≡ Some (Scrubbing scrub) →
-      (now start ms).doubt ≡ Some d → ⊥
-  pub doubt_put : (d : Doubt) (job : Job) (id : ℕ) → (now start ms).doubt ≡ Some d → d.maker ≡ Some job →
+  pub lone_open : (scrub : Scrub) → w.alone ≡ Some (Scrubbing scrub) → w.is_open ≡ true
+  pub lone_sure : (scrub : Scrub) (d : Doubt) → w.alone ≡ Some (Scrubbing scrub) → w.doubt ≡ Some d → ⊥
+  pub doubt_put : (d : Doubt) (job : Job) (id : ℕ) → w.doubt ≡ Some d → d.maker ≡ Some job →
       put_ended d.entry ≡ Some id → (name : List ℕ) × (bytes : List ℕ) × (job.kind ≡ PutJob name bytes)
-  pub doubt_runs : (d : Doubt) → (now start ms).is_open ≡ true → (now start ms).is_barred ≡ false →
-      (now start ms).doubt ≡ Some d → AtGate (now start ms) d
-  pub audit_entry : (a : Append) (j : Job) (number u : ℕ) (c : List ℕ) → (now start ms).append ≡ Some a →
-      job_of (now start ms).jobs a.job ≡ Some j → j.kind ≡ AuditJob → a.entry ≡ AuditDone number u c →
+  pub doubt_runs : (d : Doubt) → w.is_open ≡ true → w.is_barred ≡ false → w.doubt ≡ Some d → AtGate w d
+  pub audit_entry : (a : Append) (j : Job) (number u : ℕ) (c : List ℕ) → w.append ≡ Some a →
+      job_of w.jobs a.job ≡ Some j → j.kind ≡ AuditJob → a.entry ≡ AuditDone number u c →
       (number ≡ j.subject) × (4 ≤ j.place)
-  pub repair_entry : (a : Append) (j : Job) (number : ℕ) → (now start ms).append ≡ Some a →
-      job_of (now start ms).jobs a.job ≡ Some j → j.kind ≡ RepairJob → a.entry ≡ RepairDone number →
-      number ≡ j.subject
-  pub audit_fresh : (a : Append) (j : Job) → (now start ms).append ≡ Some a →
-      job_of (now start ms).jobs a.job ≡ Some j → j.kind ≡ AuditJob → j.place < 4 →
-      (now start ms).audits j.subject ≡ j.begun
-  pub audit_kept : (k : ℕ) (j : Job) → job_of (now start ms).jobs k ≡ Some j → j.kind ≡ AuditJob →
-      4 ≤ j.place → (now start ms).audits j.subject ≡ j.begun
-  pub pinned : (k : ℕ) (j : Job) (f : Pinned) → job_of (now start ms).jobs k ≡ Some j → In f j.pinned →
-      f.bytes ≡ (now start ms).bytes f.id
-  pub one_pin : (k l : ℕ) (j i : Job) (f g : Pinned) → job_of (now start ms).jobs k ≡ Some j →
-      job_of (now start ms).jobs l ≡ Some i → In f j.pinned → In g i.pinned → f.id ≡ g.id →
-      f.profile ≡ g.profile
-  pub pin_file : (k : ℕ) (j : Job) (f : Pinned) (q : List ℕ) (g : File) →
-      job_of (now start ms).jobs k ≡ Some j → In f j.pinned → file_in (now start ms) q ≡ Some g →
-      f.id ≡ g.id → f.profile ≡ g.profile
-  pub audit : (k : ℕ) (j : Job) → job_of (now start ms).jobs k ≡ Some j → j.kind ≡ AuditJob →
-      PrecedesPuts start ms j.begun
-  pub audit_doubt : (d : Doubt) (number u : ℕ) (c : List ℕ) → (now start ms).doubt ≡ Some d →
+  pub repair_entry : (a : Append) (j : Job) (number : ℕ) → w.append ≡ Some a → job_of w.jobs a.job ≡ Some j →
+      j.kind ≡ RepairJob → a.entry ≡ RepairDone number → number ≡ j.subject
+  pub audit_fresh : (a : Append) (j : Job) → w.append ≡ Some a → job_of w.jobs a.job ≡ Some j →
+      j.kind ≡ AuditJob → j.place < 4 → w.audits j.subject ≡ j.begun
+  pub audit_kept : (k : ℕ) (j : Job) → job_of w.jobs k ≡ Some j → j.kind ≡ AuditJob → 4 ≤ j.place →
+      w.audits j.subject ≡ j.begun
+  pub pinned : (k : ℕ) (j : Job) (f : Pinned) → job_of w.jobs k ≡ Some j → In f j.pinned →
+      f.bytes ≡ w.bytes f.id
+  pub one_pin : (k l : ℕ) (j i : Job) (f g : Pinned) → job_of w.jobs k ≡ Some j → job_of w.jobs l ≡ Some i →
+      In f j.pinned → In g i.pinned → f.id ≡ g.id → f.profile ≡ g.profile
+  pub pin_file : (k : ℕ) (j : Job) (f : Pinned) (q : List ℕ) (g : File) → job_of w.jobs k ≡ Some j →
+      In f j.pinned → file_in w q ≡ Some g → f.id ≡ g.id → f.profile ≡ g.profile
+  pub audit : (k : ℕ) (j : Job) → job_of w.jobs k ≡ Some j → j.kind ≡ AuditJob → PrecedesPuts start ms j.begun
+  pub audit_doubt : (d : Doubt) (number u : ℕ) (c : List ℕ) → w.doubt ≡ Some d →
       d.entry ≡ AuditDone number u c →
-      (number < next_audit (now start ms).records) × PrecedesPuts start ms ((now start ms).audits number)
-  pub due : (u : Due) → due_of (now start ms).records ≡ Some u →
-      (u.number < next_audit (now start ms).records) × PrecedesPuts start ms ((now start ms).audits u.number)
-  pub repair : (k : ℕ) (j : Job) → job_of (now start ms).jobs k ≡ Some j → j.kind ≡ RepairJob →
-      (j.subject < next_audit (now start ms).records) ×
-      PrecedesPuts start ms ((now start ms).audits j.subject)
-  pub repair_doubt : (d : Doubt) (number : ℕ) → (now start ms).doubt ≡ Some d → d.entry ≡ RepairDone number →
-      (number < next_audit (now start ms).records) × PrecedesPuts start ms ((now start ms).audits number)
+      (number < next_audit w.records) × PrecedesPuts start ms (w.audits number)
+  pub due : (u : Due) → due_of w.records ≡ Some u →
+      (u.number < next_audit w.records) × PrecedesPuts start ms (w.audits u.number)
+  pub repair : (k : ℕ) (j : Job) → job_of w.jobs k ≡ Some j → j.kind ≡ RepairJob →
+      (j.subject < next_audit w.records) × PrecedesPuts start ms (w.audits j.subject)
+  pub repair_doubt : (d : Doubt) (number : ℕ) → w.doubt ≡ Some d → d.entry ≡ RepairDone number →
+      (number < next_audit w.records) × PrecedesPuts start ms (w.audits number)
   pub mark : PrecedesPuts start ms (since start ms)
+
+abbrev pub Always : State → List Moment → Type 0
+Always start ms = AlwaysAt start ms (now start ms)
 
 -- ---- what records are of which job
 
 -- a record that ends a put is no other one
 ends_other : (v id size profile : ℕ) (r : Record) → done_record v id size profile ≡ r → put_ended r ≡ None → ⊥
-ends_other v id size profile r e none = (let f : Some id ≡ None = cc (done-ended v id size profile) in cc)
+ends_other v id size profile r e none = cc (done-ended v id size profile)
 
 -- a put's end is written by a put that has its number
 wrote_put : (job : Job) (kind : Kind) (entry : Record) (id : ℕ) → Wrote job kind entry →
@@ -102,58 +92,34 @@ wrote_put job (PutJob name bytes) entry id (inr h) e = (let f : Some job.subject
     cc (done-ended h.1.0 job.subject (length bytes) job.profile) in
     (name, bytes, refl, h.0, (let g : job.subject ≡ id = cc in g)))
 wrote_put job (GetJob name) entry id h e = absurd h
-wrote_put job (DropJob name) entry id h e = (let f : None ≡ Some id = cc in cc)
+wrote_put job (PutJob name bytes) entry id (inl h) e = (let f : None ≡ Some id = cc in cc)
+wrote_put job AuditJob entry id (inl h) e = (let f : None ≡ Some id = cc in cc)
 wrote_put job AuditJob entry id (inr h) e = (let f : None ≡ Some id = cc in cc)
-wrote_put job RepairJob entry id h e = (let f : None ≡ Some id = cc in cc)
-wrote_put job UpgradeJob entry id h e = (let f : None ≡ Some id = cc in cc)
-wrote_put job kind entry id (inl h) e = (let f : None ≡ Some id = cc in cc)
+wrote_put job kind entry id h e = (let f : None ≡ Some id = cc in cc)
 
-wrote_audit : (job : Job) (kind : Kind) (entry : Record) (number u : ℕ) (c : List ℕ) → Wrote job kind entry →
-    entry ≡ AuditDone number u c → kind ≡ AuditJob
-wrote_audit job (PutJob name bytes) entry number u c (inl h) e =
-    (let f : PutStart job.subject name ≡ AuditDone number u c = sym h.1 ∙ e in cc)
-wrote_audit job (PutJob name bytes) entry number u c (inr h) e =
-    absurd (ends_other h.1.0 _ _ _ _ (sym h.1.1 ∙ e) refl)
-wrote_audit job (GetJob name) entry number u c h e = absurd h
-wrote_audit job (DropJob name) entry number u c h e =
-    (let f : Drop name ≡ AuditDone number u c = sym h ∙ e in cc)
-wrote_audit job AuditJob entry number u c h e = refl
-wrote_audit job RepairJob entry number u c h e =
-    (let f : RepairDone h.0 ≡ AuditDone number u c = sym h.1 ∙ e in cc)
-wrote_audit job UpgradeJob entry number u c h e = (let f : Version ≡ AuditDone number u c = sym h ∙ e in cc)
+-- only an audit writes an audit's end, only a repair a repair's, and no job a setup
+abbrev IsOf : Kind → Record → Type 0
+IsOf kind (AuditDone number u c) = kind ≡ AuditJob
+IsOf kind (RepairDone number) = kind ≡ RepairJob
+IsOf kind (SetUp s) = ⊥
+IsOf kind entry = Unit {0}
 
-wrote_repair : (job : Job) (kind : Kind) (entry : Record) (number : ℕ) → Wrote job kind entry →
-    entry ≡ RepairDone number → kind ≡ RepairJob
-wrote_repair job (PutJob name bytes) entry number (inl h) e =
-    (let f : PutStart job.subject name ≡ RepairDone number = sym h.1 ∙ e in cc)
-wrote_repair job (PutJob name bytes) entry number (inr h) e =
-    absurd (ends_other h.1.0 _ _ _ _ (sym h.1.1 ∙ e) refl)
-wrote_repair job (GetJob name) entry number h e = absurd h
-wrote_repair job (DropJob name) entry number h e = (let f : Drop name ≡ RepairDone number = sym h ∙ e in cc)
-wrote_repair job AuditJob entry number (inl h) e =
-    (let f : AuditStart h.0 ≡ RepairDone number = sym h.1 ∙ e in cc)
-wrote_repair job AuditJob entry number (inr h) e =
-    (let f : AuditDone h.0 h.1 h.2 ≡ RepairDone number = sym h.3 ∙ e in cc)
-wrote_repair job RepairJob entry number h e = refl
-wrote_repair job UpgradeJob entry number h e = (let f : Version ≡ RepairDone number = sym h ∙ e in cc)
-
-wrote_no_setup : (job : Job) (kind : Kind) (entry : Record) (s : Setup) → Wrote job kind entry →
-    entry ≡ SetUp s → ⊥
-wrote_no_setup job (PutJob name bytes) entry s (inl h) e =
-    (let f : PutStart job.subject name ≡ SetUp s = sym h.1 ∙ e in cc)
-wrote_no_setup job (PutJob name bytes) entry s (inr h) e = ends_other h.1.0 _ _ _ _ (sym h.1.1 ∙ e) refl
-wrote_no_setup job (GetJob name) entry s h e = h
-wrote_no_setup job (DropJob name) entry s h e = (let f : Drop name ≡ SetUp s = sym h ∙ e in cc)
-wrote_no_setup job AuditJob entry s (inl h) e = (let f : AuditStart h.0 ≡ SetUp s = sym h.1 ∙ e in cc)
-wrote_no_setup job AuditJob entry s (inr h) e = (let f : AuditDone h.0 h.1 h.2 ≡ SetUp s = sym h.3 ∙ e in cc)
-wrote_no_setup job RepairJob entry s h e = (let f : RepairDone h.0 ≡ SetUp s = sym h.1 ∙ e in cc)
-wrote_no_setup job UpgradeJob entry s h e = (let f : Version ≡ SetUp s = sym h ∙ e in cc)
+wrote_of : (job : Job) (kind : Kind) (entry r : Record) → Wrote job kind entry → entry ≡ r → IsOf kind r
+wrote_of job (PutJob name bytes) entry r (inl h) e = subst (IsOf (PutJob name bytes)) (sym h.1 ∙ e) tt
+wrote_of job (PutJob name bytes) entry r (inr h) e = subst (IsOf (PutJob name bytes)) (sym h.1.1 ∙ e)
+    (by_version h.1.0 job.subject (length bytes) job.profile (IsOf (PutJob name bytes)) tt tt)
+wrote_of job (GetJob name) entry r h e = absurd h
+wrote_of job (DropJob name) entry r h e = subst (IsOf (DropJob name)) (sym h ∙ e) tt
+wrote_of job AuditJob entry r (inl h) e = subst (IsOf AuditJob) (sym h.1 ∙ e) tt
+wrote_of job AuditJob entry r (inr h) e = subst (IsOf AuditJob) (sym h.3 ∙ e) refl
+wrote_of job RepairJob entry r h e = subst (IsOf RepairJob) (sym h.1 ∙ e) refl
+wrote_of job UpgradeJob entry r h e = subst (IsOf UpgradeJob) (sym h ∙ e) tt
 
 -- files in effect that have one number are one
 pub stands_once : (w : State) → AreSound w.records → (f g : Pinned) → Stands w f → Stands w g → f.id ≡ g.id →
     f ≡ g
-stands_once w sound f g s t e = (let ids : s.file.id ≡ t.file.id = cc in
-    let name = sound.one_name s.name t.name s.file t.file s.in_effect t.in_effect ids in
+stands_once w sound f g s t e = (let name = sound.one_name s.name t.name s.file t.file s.in_effect t.in_effect
+    cc in
     let same : s.file ≡ t.file = cc in cc)
 
 -- the profile of a number among files of which it has one
@@ -192,45 +158,41 @@ drawn_begun w job kind number is first e =
 audit_writes : (w : State) (job : Job) (kind : Kind) (entry : Record) (number u : ℕ) (c : List ℕ) →
     kind ≡ AuditJob → Writes w job kind entry → entry ≡ AuditDone number u c →
     (number ≡ job.subject) × (4 ≤ job.place)
-audit_writes w job kind entry number u c is writes e = go (subst (λ kd. Writes w job kd entry) is writes)
+audit_writes w job kind entry number u c is writes e = go (rw is at writes)
   where
     go : Writes w job AuditJob entry → (number ≡ job.subject) × (4 ≤ job.place)
     go h = elim (cases_lt job.place 4) [
-      | inl l ↦ absurd (let g = rw (first_below job l) at h in let f : AuditStart (next_audit w.records)
-          ≡ AuditDone number u c = sym g ∙ e in cc)
-      | inr l ↦ (let g = rw (first_above job l) at h in let f : AuditDone job.subject g.0.undecided g.0.counts
-          ≡ AuditDone number u c = sym g.2 ∙ e in ((let z : number ≡ job.subject = cc in z), l))
+      | inl l ↦ absurd (let g = rw (first_below job l) at h in cc (sym g ∙ e))
+      | inr l ↦ (let g = rw (first_above job l) at h in let f = sym g.2 ∙ e in ((cc), l))
     ]
 
 repair_writes : (w : State) (job : Job) (kind : Kind) (entry : Record) (number : ℕ) → kind ≡ RepairJob →
     Writes w job kind entry → entry ≡ RepairDone number → number ≡ job.subject
 repair_writes w job kind entry number is writes e =
-    (let h : Writes w job RepairJob entry = subst (λ kd. Writes w job kd entry) is writes in
-    let f : RepairDone job.subject ≡ RepairDone number = sym h ∙ e in let g : number ≡ job.subject = cc in g)
+    (let f = sym (subst (λ kd. Writes w job kd entry) is writes) ∙ e in cc)
 
 -- ---- begins of audits and repairs
 
 not_barred : (limit : ℕ) (w : State) (kind : Kind) (wish : Option ℕ) →
     refusal_of_begin limit w kind wish ≡ None → w.is_barred ≡ false
 not_barred limit w kind wish h = elim (cases_Bool w.is_barred) [
-  | inl t ↦ absurd (let e = rw t at h in let f : Some refusal.MustReopen ≡ None = e in cc)
+  | inl t ↦ absurd (let e = rw t at h in cc e)
   | inr o ↦ o
 ]
 
 -- no put runs where an audit begins
 no_put : (limit : ℕ) (w : State) (wish : Option ℕ) → refusal_of_begin limit w AuditJob wish ≡ None →
     (k : ℕ) (j : Job) (name bytes : List ℕ) → job_of w.jobs k ≡ Some j → j.kind ≡ PutJob name bytes → ⊥
-no_put limit w wish none k j name bytes runs kind =
-    (let f = any_aim is_put_or_check w.jobs k j runs (right_false _ _ (right_false _ _ (not_busy limit w
-    AuditJob wish none))) in false≢true (cc))
+no_put limit w wish none k j name bytes runs kind = (let f = any_aim is_put_or_check w.jobs k j runs
+    (right_false _ _ (right_false _ _ (not_busy limit w AuditJob wish none))) in false≢true (cc))
 
 -- a repair is due where one begins
 pub repair_due : (limit : ℕ) (w : State) (wish : Option ℕ) (o : Option Due) → due_of w.records ≡ o →
     refusal_of_begin limit w RepairJob wish ≡ None → (u : Due) × (due_of w.records ≡ Some u)
 repair_due limit w wish (Some u) is h = (u, is)
 repair_due limit w wish None is h =
-    absurd (let a = not_barred limit w RepairJob wish h in let b = not_busy limit w RepairJob wish h in
-    let e = rw (a, b, is) at h in let f : Some refusal.NothingDue ≡ None = e in cc)
+    absurd (let e = rw (not_barred limit w RepairJob wish h, not_busy limit w RepairJob wish h, is) at h in
+    cc e)
 
 -- the number of a file in effect has been drawn
 pub file_below : {start : State} {ms : List Moment} (A : All start ms) (q : List ℕ) (f : File) →
@@ -245,10 +207,34 @@ audits_below {old} {new} T number l = elim T.audits [
   | Audits_are.drew x runs free mine e ↦ cc (drawn_other old x x.kind number (λ z. omega (arith, l, z)))
 ]
 
-module _ (limit : ℕ) (start : State) (m : Moment) (ms : List Moment) (A : All start ms)
-    (U : num.Facts audits start ms) (I : eff.Facts (now start ms)) (E : Always start ms)
-    (X : Changes limit (length ms) (now start ms) m.event m.outcome m.state)
-    (T : Turns (now start ms) m.state) where
+-- what holds before an event, and what it changes
+pub record Around (limit : ℕ) (start : State) (m : Moment) (ms : List Moment) : Type 0 where
+  pub clean : IsStart start
+  pub run : IsRun limit start ms
+  pub facts : All start ms
+  pub numbers : num.Facts audits start ms
+  pub files : eff.Facts (now start ms)
+  pub kept : Always start ms
+  pub changed : Changes limit (length ms) (now start ms) m.event m.outcome m.state
+  pub turned : Turns (now start ms) m.state
+
+around_by : (limit : ℕ) (start : State) (m : Moment) (ms : List Moment) → IsStart start →
+    IsRun limit start (m ∷ ms) → Always start ms → Around limit start m ms
+around_by limit start m ms clean run E = (let A = all limit start clean ms run.2 in
+    record {
+      clean = clean;
+      run = run.2;
+      facts = A;
+      numbers = num.facts audits limit start clean ms run.2;
+      files = eff.facts limit start ms clean run.2;
+      kept = E;
+      changed = changes limit (length ms) (now start ms) m.event m.outcome m.state A.numbers.idle run.1;
+      turned = turns (now start ms) limit (length ms) m.event m.outcome m.state run.1;
+    })
+
+module _ {limit : ℕ} {start : State} {m : Moment} {ms : List Moment} (N : Around limit start m ms) where
+  open N use {facts as A, numbers as U, files as I, kept as E, changed as X, turned as T}
+
   -- the state after these moments
   abbrev w : State
   w = now start ms
@@ -319,10 +305,8 @@ module _ (limit : ℕ) (start : State) (m : Moment) (ms : List Moment) (A : All 
       i < (setup_in m.state).n → s < stripes_of (profiled (setup_in m.state) p) (length (m.state.bytes o)) →
       (i < (setup_in w).n) × (s < stripes_of (profiled (setup_in w) p) (length (w.bytes o)))
   bounds p o i s setup below l k = (
-    subst (λ (t : Setup). i < t.n) setup l,
-    subst (λ (t : Setup). s < stripes_of (profiled t p) (length (w.bytes o))) setup
-        (subst (λ (y : List ℕ). s < stripes_of (profiled (setup_in m.state) p) (length y)) (X.bytes o below)
-        k),
+    (rw setup at l),
+    subst (λ t. s < stripes_of (profiled t p) (length (w.bytes o))) setup (rw (X.bytes o below) at k),
   )
 
   -- no running job takes away the object of a file in effect
@@ -358,22 +342,13 @@ module _ (limit : ℕ) (start : State) (m : Moment) (ms : List Moment) (A : All 
         | Doubt_now.kept was rec ↦ P.doubts d version id size profile was e
         | Doubt_now.gated job a runs next_is flight mine entry_is maker rec on ↦
             (let g = gated_put job a id runs flight mine (cc (done-ended version id size profile)) in
-            subst (λ (o : Option Job). from ≤ begun_of o) (sym maker) (P.puts job.number job g.0 g.1 runs
+            subst (λ o. from ≤ begun_of o) (sym maker) (P.puts job.number job g.0 g.1 runs
             g.2))
         | Doubt_now.set_up s entry_is bare none closed ↦
             absurd (ends_other version id size profile (SetUp s) (sym e ∙ entry_is) refl)
       ]
 
   -- ---- the record in doubt
-
-  setup_doubt_step : (d : Doubt) (s : Setup) → m.state.doubt ≡ Some d → d.entry ≡ SetUp s →
-      setup_of m.state.records ≡ None
-  setup_doubt_step d s h e = elim (T.doubt d h) [
-    | Doubt_now.kept was rec ↦ cc (E.setup_doubt d s was e)
-    | Doubt_now.gated job a runs next_is flight mine entry_is maker rec on ↦
-        absurd (wrote_no_setup job job.kind a.entry s (A.pins.wrote a job flight (cc)) (sym entry_is ∙ e))
-    | Doubt_now.set_up t entry_is bare none closed ↦ none
-  ]
 
   -- while a job runs, a setup is in effect
   pub runs_up : (k : ℕ) (j : Job) → job_of w.jobs k ≡ Some j → is_some (setup_of w.records) ≡ true
@@ -414,7 +389,7 @@ module _ (limit : ℕ) (start : State) (m : Moment) (ms : List Moment) (A : All 
             up = cc (runs_up job.number job runs);
             name = name;
             started = cc (A.pins.started job.number job name bytes runs kind late (omega arith));
-            early = subst (λ (o : Option Job). begun_of o ≤ suc (length ms)) (sym maker)
+            early = subst (λ o. begun_of o ≤ suc (length ms)) (sym maker)
                 (let l = A.held.begun job.number job runs in let z : job.begun ≤ suc (length ms) =
                 omega arith in z);
           })
@@ -424,9 +399,8 @@ module _ (limit : ℕ) (start : State) (m : Moment) (ms : List Moment) (A : All 
       job_of w.jobs x.number ≡ Some x → next_action w x ≡ Some (Store i o s) → x.kind ≡ PutJob name bytes →
       o ≡ x.subject → b ≡ Some (block_to_store w x x.kind i o s) →
       b ≡ Some (columns (object_in w x.profile o) (w.bytes o) i s)
-  put_column x name bytes i o s b runs next_is kind o_is b_is =
-      (let place = store_place w x name bytes i o s kind next_is in
-      let bytes_are : w.bytes o ≡ bytes = cc (I.kept x.number x name bytes runs kind place.0) in cc)
+  put_column x name bytes i o s b runs next_is kind o_is b_is = (let bytes_are : w.bytes o ≡ bytes = cc
+      (I.kept x.number x name bytes runs kind (store_place w x name bytes i o s kind next_is).0) in cc)
 
   -- the columns of a number that is started stay until its provider is replaced
   started_on : (from p id i s : ℕ) (name : List ℕ) (b : Option (List ℕ)) → ((scrub : Scrub) →
@@ -438,8 +412,7 @@ module _ (limit : ℕ) (start : State) (m : Moment) (ms : List Moment) (A : All 
       c ≡ Some (columns (object_in w p id) (w.bytes id) i s)) → told_block m.state i id s ≡ Some b →
       b ≡ Some (columns (object_in w p id) (w.bytes id) i s)
   started_on from p id i s name b no_scrub own started early none before told = elim (X.block i id s) [
-    | Block_is.same e ↦ before b
-        (elim (cases_Bool (is_replaced_since from i ms))
+    | Block_is.same e ↦ before b (elim (cases_Bool (is_replaced_since from i ms))
         [ inl t ↦ absurd (false≢true (sym none ∙ since_more from i m ms t)) | inr f ↦ f ]) (sym e ∙ told)
     | Block_is.replaced r ↦ absurd (false≢true (sym none ∙ since_now from i m ms r early))
     | Block_is.stored x runs next_is is ↦ (let b_is = some_told _ _ b (sym is ∙ told) in
@@ -449,8 +422,7 @@ module _ (limit : ℕ) (start : State) (m : Moment) (ms : List Moment) (A : All 
                 put_column x n bytes i id s b runs next_is kind o_is b_is,
                 own x n bytes runs kind place.0 (sym o_is),
               ))
-          | inr (repairs, pin) ↦
-              absurd (let q : HasPin x id = subst (λ kd. IsFair x kd (Store i id s)) repairs fair_x in
+          | inr (repairs, pin) ↦ absurd (let q = rw repairs at fair_x in
               some-not-none _ name started (cc ((A.pins.pins x.number x q.file runs q.pinned).1)))
         ])
     | Block_is.scrubbed scrub rest at next_is is ↦ absurd (no_scrub scrub at)
@@ -486,7 +458,7 @@ module _ (limit : ℕ) (start : State) (m : Moment) (ms : List Moment) (A : All 
   -- the same file ends, as records stay
   ends_same : (d : Doubt) (id size p : ℕ) → m.state.records ≡ w.records →
       IsEndOfPut m.state.records d.entry id size p → IsEndOfPut w.records d.entry id size p
-  ends_same d id size p rec e = subst (λ rs. IsEndOfPut rs d.entry id size p) rec e
+  ends_same d id size p rec e = rw rec at e
 
   -- the profile of the put whose record comes into doubt
   gated_profile : (job : Job) (a : Append) (d : Doubt) (name bytes : List ℕ) (id size p : ℕ) →
@@ -538,7 +510,7 @@ module _ (limit : ℕ) (start : State) (m : Moment) (ms : List Moment) (A : All 
           cc (I.kept job.number job name bytes runs kind late) in let n = bounds p id i s setup below l k in
           let made = stored_before_gate w job name bytes i s kind next_is late n.0
           (subst (λ q. s < stripes_of (profiled (setup_in w) q) (length bytes)) (sym own)
-          (subst (λ (y : List ℕ). s < stripes_of (profiled (setup_in w) p) (length y)) bytes_are n.1)) in
+          (subst (λ y. s < stripes_of (profiled (setup_in w) p) (length y)) bytes_are n.1)) in
           columns_on p id i s b below setup (started_on job.begun p id i s name b (no_scrub job runs)
           (λ x q more runs_x kind_x late_x mine. one_put job name bytes x q more runs kind late runs_x kind_x
           late_x (mine ∙ sym subject) ∙ own) started (A.held.begun job.number job runs) none_job
@@ -560,22 +532,20 @@ module _ (limit : ℕ) (start : State) (m : Moment) (ms : List Moment) (A : All 
     | Job_is.kept r grown ↦
         record { before = x; runs = r; kind = kind; late = late; subject = refl; profile = refl }
     | Job_is.begun kd wish is k_is allowed rec2 ↦ absurd (let e : x.place ≡ 0 = cc in omega arith)
-    | Job_is.plain y action runs next_is is_plain goes rec2 st ↦
-        (let ky : y.kind ≡ PutJob name bytes = sym goes.kind ∙ kind in
-        record {
-          before = y;
-          runs = runs;
-          kind = ky;
-          late = elim (cases_eq y.place 3) [
-            | inl three ↦ absurd (subst IsPlain (same_value _ action SyncGate next_is (at_three objects w y
-                (cc) three)) is_plain)
-            | inr other ↦ (let e = goes.place in omega arith)
-          ];
-          subject = goes.subject;
-          profile = goes.profile;
-        })
-    | Job_is.drew y runs next_is free is rec2 ↦ (let ky : y.kind ≡ PutJob name bytes = cc in
-        let place : x.place ≡ y.place + 1 = cc in let l : 4 ≤ y.place = elim (cases_eq y.place 3) [
+    | Job_is.plain y action runs next_is is_plain goes rec2 st ↦ (record {
+      before = y;
+      runs = runs;
+      kind = (sym goes.kind ∙ kind);
+      late = elim (cases_eq y.place 3) [
+        | inl three ↦ absurd (rw (same_value _ action SyncGate next_is (at_three objects w y
+            (cc) three)) at is_plain)
+        | inr other ↦ (let e = goes.place in omega arith)
+      ];
+      subject = goes.subject;
+      profile = goes.profile;
+    })
+    | Job_is.drew y runs next_is free is rec2 ↦ (let place : x.place ≡ y.place + 1 = cc in
+        let l : 4 ≤ y.place = elim (cases_eq y.place 3) [
           | inl three ↦ absurd (let e : WriteBody ≡ SyncGate =
               same_value _ WriteBody SyncGate next_is (at_three objects w y (cc) three) in cc)
           | inr other ↦ omega arith
@@ -583,7 +553,7 @@ module _ (limit : ℕ) (start : State) (m : Moment) (ms : List Moment) (A : All 
         record {
           before = y;
           runs = runs;
-          kind = ky;
+          kind = cc;
           late = l;
           subject = cc (drawn_later w y y.kind (first_above y l));
           profile = cc;
@@ -591,32 +561,6 @@ module _ (limit : ℕ) (start : State) (m : Moment) (ms : List Moment) (A : All 
     | Job_is.finished y a runs next_is flight mine is rec2 free ↦
         absurd (let e : length w.records ≡ suc (length w.records) =
         sym (ap length rec) ∙ ap length rec2 in omega arith)
-  ]
-
-  put_own_step : (d : Doubt) (id size p k : ℕ) (x : Job) (name bytes : List ℕ) → m.state.doubt ≡ Some d →
-      IsEndOfPut m.state.records d.entry id size p → job_of m.state.jobs k ≡ Some x →
-      x.kind ≡ PutJob name bytes → 4 ≤ x.place → x.subject ≡ id → x.profile ≡ p
-  put_own_step d id size p k x name bytes h e runs_on kind late mine_x = elim (T.doubt d h) [
-    | Doubt_now.kept was rec ↦ (let y = was_put k x name bytes runs_on kind late rec in
-        y.profile ∙ E.put_own d id size p k y.before name bytes was
-        (ends_same d id size p rec e) y.runs y.kind y.late (sym y.subject ∙ mine_x))
-    | Doubt_now.gated job a runs next_is flight mine entry_is maker rec on ↦
-        (let y = was_put k x name bytes runs_on kind late rec in let old = ends_same d id size p rec e in
-        let g = gated_put job a id runs flight mine (cc (ends_ended w.records d.entry id size p old)) in
-        y.profile ∙ (one_put job g.0 g.1 y.before name bytes runs g.2 g.3
-        (cc (number_of w.jobs k y.before y.runs)) y.kind y.late (cc) ∙ gated_profile job a d g.0 g.1 id size p
-        runs flight mine entry_is g.2 g.3 old))
-    | Doubt_now.set_up t entry_is bare none_up closed ↦
-        absurd (let z : None ≡ Some id = cc (ends_ended m.state.records d.entry id size p e) in cc)
-  ]
-
-  doubt_put_step : (d : Doubt) (job : Job) (id : ℕ) → m.state.doubt ≡ Some d → d.maker ≡ Some job →
-      put_ended d.entry ≡ Some id → (name : List ℕ) × (bytes : List ℕ) × (job.kind ≡ PutJob name bytes)
-  doubt_put_step d job id h maker e = elim (T.doubt d h) [
-    | Doubt_now.kept was rec ↦ E.doubt_put d job id was maker e
-    | Doubt_now.gated x a runs next_is flight mine entry_is maker_is rec on ↦
-        (let g = gated_put x a id runs flight mine (cc) in let same : job ≡ advanced x = cc in (g.0, g.1, cc))
-    | Doubt_now.set_up t entry_is bare none closed ↦ absurd (let z : None ≡ Some id = cc in cc)
   ]
 
   -- while a vault goes on, the job whose record is in doubt runs and makes its fourth move next
@@ -730,9 +674,8 @@ module _ (limit : ℕ) (start : State) (m : Moment) (ms : List Moment) (A : All 
     | Append_is.kept b flight job_is entry rec ↦ elim (X.job a.job j hj) [
       | Job_is.kept r grown ↦ carried b flight j refl refl kind small (cc)
       | Job_is.begun kd wish is k_is allowed rec2 ↦ absurd (let l = A.numbers.holder b flight in omega arith)
-      | Job_is.plain x action runs next_is is_plain goes rec2 st ↦
-          carried b flight x goes.subject goes.begun (sym goes.kind ∙ kind)
-          (let e = goes.place in omega arith) (cc)
+      | Job_is.plain x action runs next_is is_plain goes rec2 st ↦ carried b flight x goes.subject goes.begun
+          (sym goes.kind ∙ kind) (let e = goes.place in omega arith) (cc)
       | Job_is.drew x runs next_is free is rec2 ↦ absurd (some-not-none w.append b flight free)
       | Job_is.finished x c runs next_is flight_c mine is rec2 free ↦
           absurd (some-not-none m.state.append a h free)
@@ -781,8 +724,7 @@ module _ (limit : ℕ) (start : State) (m : Moment) (ms : List Moment) (A : All 
         elim (cases_lt x.place 4) [
           | inl l ↦ cc (
             audits_stay a flight,
-            E.audit_fresh a x flight (subst (λ n. job_of w.jobs n ≡ Some x)
-                (sym mine) runs) kx l,
+            E.audit_fresh a x flight (subst (λ n. job_of w.jobs n ≡ Some x) (sym mine) runs) kx l,
           )
           | inr l ↦ carried x runs subject begun kx l
         ])
@@ -793,87 +735,15 @@ module _ (limit : ℕ) (start : State) (m : Moment) (ms : List Moment) (A : All 
       carried x runs subject begun kx l =
           cc (audits_below T x.subject (U.below k x runs (audit_number x kx l)), E.audit_kept k x runs kx l)
 
-  audit_entry_step : (a : Append) (j : Job) (number u : ℕ) (c : List ℕ) → m.state.append ≡ Some a →
-      job_of m.state.jobs a.job ≡ Some j → j.kind ≡ AuditJob → a.entry ≡ AuditDone number u c →
-      (number ≡ j.subject) × (4 ≤ j.place)
-  audit_entry_step a j number u c h hj kind e = elim (X.append a h) [
-    | Append_is.kept b flight job_is entry rec ↦ elim (X.job a.job j hj) [
-      | Job_is.kept r grown ↦ E.audit_entry b j number u c flight (cc) kind (sym entry ∙ e)
-      | Job_is.begun kd wish is k_is allowed rec2 ↦ absurd (let l = A.numbers.holder b flight in omega arith)
-      | Job_is.plain x action runs next_is is_plain goes rec2 st ↦
-          (let g = E.audit_entry b x number u c flight (cc) (sym goes.kind ∙ kind) (sym entry ∙ e) in
-          (g.0 ∙ sym goes.subject, (let p = goes.place in let l = g.1 in omega arith)))
-      | Job_is.drew x runs next_is free is rec2 ↦ absurd (some-not-none w.append b flight free)
-      | Job_is.finished x d runs next_is flight_d mine is rec2 free ↦
-          absurd (some-not-none m.state.append a h free)
-    ]
-    | Append_is.drew x runs next_is mine writes found rec ↦ (let is = same_value _ j _ (cc) found in
-        let place : j.place ≡ x.place + 1 = cc in let kx : x.kind ≡ AuditJob = cc in
-        let g = audit_writes w x x.kind a.entry number u c kx writes e in (
-          cc (drawn_later w x x.kind (first_above x g.1)),
-          (let l = g.1 in omega arith),
-        ))
-  ]
-
-  repair_entry_step : (a : Append) (j : Job) (number : ℕ) → m.state.append ≡ Some a →
-      job_of m.state.jobs a.job ≡ Some j → j.kind ≡ RepairJob → a.entry ≡ RepairDone number →
-      number ≡ j.subject
-  repair_entry_step a j number h hj kind e = elim (X.append a h) [
-    | Append_is.kept b flight job_is entry rec ↦ elim (X.job a.job j hj) [
-      | Job_is.kept r grown ↦ E.repair_entry b j number flight (cc) kind (sym entry ∙ e)
-      | Job_is.begun kd wish is k_is allowed rec2 ↦ absurd (let l = A.numbers.holder b flight in omega arith)
-      | Job_is.plain x action runs next_is is_plain goes rec2 st ↦
-          E.repair_entry b x number flight (cc) (sym goes.kind ∙ kind) (sym entry ∙ e) ∙ sym goes.subject
-      | Job_is.drew x runs next_is free is rec2 ↦ absurd (some-not-none w.append b flight free)
-      | Job_is.finished x d runs next_is flight_d mine is rec2 free ↦
-          absurd (some-not-none m.state.append a h free)
-    ]
-    | Append_is.drew x runs next_is mine writes found rec ↦ (let is = same_value _ j _ (cc) found in
-        let kx : x.kind ≡ RepairJob = cc in cc (repair_writes w x x.kind a.entry number kx writes e))
-  ]
-
-  pinned_step : (k : ℕ) (j : Job) (f : Pinned) → job_of m.state.jobs k ≡ Some j → In f j.pinned →
-      f.bytes ≡ m.state.bytes f.id
-  pinned_step k j f h in_f = elim (pins_is limit start m ms A.numbers A.pins X k j h) [
-    | Pins_is.had x runs pinned kind begun g ↦
-        (let in_x = subst (In f) pinned in_f in E.pinned k x f runs in_x
-        ∙ sym (X.bytes f.id (A.pins.pins k x f runs in_x).0))
-    | Pins_is.new_one kd wish is k_is allowed rec ↦
-        (let st = pinned_stands w kd f (subst (λ (x : Job). In f x.pinned) is in_f) in
-        let id_is : f.id ≡ st.file.id = cc in ap (λ (x : Pinned). x.bytes) st.is ∙ (ap w.bytes (sym id_is)
-        ∙ sym (X.bytes f.id (let l = file_below A st.name st.file st.in_effect in omega arith))))
-  ]
-
   -- files that jobs work on, or that are in effect, have one profile for one number
   new_file : (j : Job) (kd : Kind) (wish : Option ℕ) (f : Pinned) → j ≡ beginning w (length ms) kd wish →
       In f j.pinned → Stands w f
-  new_file j kd wish f is in_f = pinned_stands w kd f (subst (λ (x : Job). In f x.pinned) is in_f)
+  new_file j kd wish f is in_f = pinned_stands w kd f (rw is at in_f)
 
   stands_file : (f : Pinned) (q : List ℕ) (g : File) → Stands w f → file_in w q ≡ Some g → f.id ≡ g.id →
       f.profile ≡ g.profile
   stands_file f q g st h e = ap (λ (x : Pinned). x.profile) (stands_once w A.pins.sound f (pinned_file w g) st
       (record { name = q; file = g; in_effect = h; is = refl }) e)
-
-  one_pin_step : (k l : ℕ) (j i : Job) (f g : Pinned) → job_of m.state.jobs k ≡ Some j →
-      job_of m.state.jobs l ≡ Some i → In f j.pinned → In g i.pinned → f.id ≡ g.id → f.profile ≡ g.profile
-  one_pin_step k l j i f g h h2 in_f in_g e = elim (pins_is limit start m ms A.numbers A.pins X k j h) [
-    | Pins_is.had x runs pinned kind begun growth ↦
-        elim (pins_is limit start m ms A.numbers A.pins X l i h2) [
-          | Pins_is.had y runs_y pinned_y kind_y begun_y growth_y ↦
-              E.one_pin k l x y f g runs runs_y (subst (In f) pinned in_f) (subst (In g) pinned_y in_g) e
-          | Pins_is.new_one kd wish is k_is allowed rec ↦ (let st = new_file i kd wish g is in_g in
-              E.pin_file k x f st.name st.file runs (subst (In f) pinned in_f) st.in_effect (cc) ∙ sym (cc))
-        ]
-    | Pins_is.new_one kd wish is k_is allowed rec ↦
-        elim (pins_is limit start m ms A.numbers A.pins X l i h2) [
-          | Pins_is.had y runs_y pinned_y kind_y begun_y growth_y ↦ (let st = new_file j kd wish f is in_f in
-              cc (E.pin_file l y g st.name st.file runs_y (subst (In g) pinned_y in_g) st.in_effect (sym e
-              ∙ ap (λ (z : Pinned). z.id) st.is)))
-          | Pins_is.new_one kd2 wish2 is2 k_is2 allowed2 rec2 ↦
-              cc (stands_once w A.pins.sound f g (new_file j kd wish f is in_f) (new_file i kd2 wish2 g is2
-              in_g) e)
-        ]
-  ]
 
   pin_file_step : (k : ℕ) (j : Job) (f : Pinned) (q : List ℕ) (g : File) → job_of m.state.jobs k ≡ Some j →
       In f j.pinned → file_in m.state q ≡ Some g → f.id ≡ g.id → f.profile ≡ g.profile
@@ -921,15 +791,14 @@ module _ (limit : ℕ) (start : State) (m : Moment) (ms : List Moment) (A : All 
       open_now : m.state.is_open ≡ true
       open_now = elim (cases_Bool m.state.is_open) [
         | inl t ↦ t
-        | inr f ↦
-            absurd (found_none m.state.jobs k j (X.idle A.numbers.idle.idle f).0 runs_on)
+        | inr f ↦ absurd (found_none m.state.jobs k j (X.idle A.numbers.idle.idle f).0 runs_on)
       ]
 
       doubts : (d : Doubt) (version id size profile : ℕ) → m.state.doubt ≡ Some d →
           d.entry ≡ done_record version id size profile → length ms ≤ begun_of d.maker
       doubts d version id size profile h e = absurd (elim (T.doubt d h) [
-        | Doubt_now.kept was rec_d ↦ (let o = T.opened d h open_now in
-            let g = E.doubt_runs d o.0 (not_barred limit w AuditJob wish allowed) was in
+        | Doubt_now.kept was rec_d ↦ (let g = E.doubt_runs d (T.opened d h open_now).0
+            (not_barred limit w AuditJob wish allowed) was in
             let p = E.doubt_put d g.job id was g.maker (cc (done-ended version id size profile)) in
             no_put limit w wish allowed g.job.number g.job p.0 p.1 g.runs p.2)
         | Doubt_now.gated job a runs next_is flight mine entry_is maker rec_d on_ ↦
@@ -938,16 +807,6 @@ module _ (limit : ℕ) (start : State) (m : Moment) (ms : List Moment) (A : All 
         | Doubt_now.set_up t entry_is bare none closed ↦
             ends_other version id size profile (SetUp t) (sym e ∙ entry_is) refl
       ])
-
-  -- no put that works began before a running audit
-  pub audit_begins : (k : ℕ) (j : Job) → job_of m.state.jobs k ≡ Some j → j.kind ≡ AuditJob →
-      PrecedesPuts start (m ∷ ms) j.begun
-  audit_begins k j h kind = elim (pins_is limit start m ms A.numbers A.pins X k j h) [
-    | Pins_is.had x runs pinned kind_x begun g ↦ subst (PrecedesPuts start (m ∷ ms)) (sym begun)
-        (before_on x.begun (E.audit k x runs (sym kind_x ∙ kind)))
-    | Pins_is.new_one kd wish is k_is allowed rec ↦ (let kd_is : kd ≡ AuditJob = cc in
-        subst (PrecedesPuts start (m ∷ ms)) (cc) (audit_new k j wish h (cc)))
-  ]
 
   -- the audit whose last record comes into doubt
   pub record AuditGated (job : Job) (number : ℕ) : Type 0 where
@@ -961,7 +820,7 @@ module _ (limit : ℕ) (start : State) (m : Moment) (ms : List Moment) (A : All 
       a.entry ≡ AuditDone number u c → AuditGated job number
   audit_gated job a number u c runs flight mine e =
       (let at_job = subst (λ n. job_of w.jobs n ≡ Some job) (sym mine) runs in
-      let kind = wrote_audit job job.kind a.entry number u c (A.pins.wrote a job flight at_job) e in
+      let kind = wrote_of job job.kind a.entry _ (A.pins.wrote a job flight at_job) e in
       let g = E.audit_entry a job number u c flight at_job kind e in
       record {
         kind = kind;
@@ -980,24 +839,8 @@ module _ (limit : ℕ) (start : State) (m : Moment) (ms : List Moment) (A : All 
       w.append ≡ Some a → a.job ≡ job.number → a.entry ≡ RepairDone number → RepairGated job number
   repair_gated job a number runs flight mine e =
       (let at_job = subst (λ n. job_of w.jobs n ≡ Some job) (sym mine) runs in
-      let kind = wrote_repair job job.kind a.entry number (A.pins.wrote a job flight at_job) e in
+      let kind = wrote_of job job.kind a.entry _ (A.pins.wrote a job flight at_job) e in
       record { kind = kind; subject = E.repair_entry a job number flight at_job kind e })
-
-  audit_doubt_begins : (d : Doubt) (number u : ℕ) (c : List ℕ) → m.state.doubt ≡ Some d →
-      d.entry ≡ AuditDone number u c → (number < next_audit m.state.records) ×
-      PrecedesPuts start (m ∷ ms) (m.state.audits number)
-  audit_doubt_begins d number u c h e = elim (T.doubt d h) [
-    | Doubt_now.kept was rec ↦ moved number (E.audit_doubt d number u c was e)
-    | Doubt_now.gated job a runs next_is flight mine entry_is maker rec on ↦
-        (let g = audit_gated job a number u c runs flight mine (sym entry_is ∙ e) in
-        moved number (
-          g.below,
-          subst (PrecedesPuts start ms) (sym g.begins)
-              (E.audit job.number job runs g.kind),
-        ))
-    | Doubt_now.set_up t entry_is bare none closed ↦
-        absurd (let z : SetUp t ≡ AuditDone number u c = sym entry_is ∙ e in cc)
-  ]
 
   due_begins : (u : Due) → due_of m.state.records ≡ Some u →
       (u.number < next_audit m.state.records) × PrecedesPuts start (m ∷ ms) (m.state.audits u.number)
@@ -1026,8 +869,8 @@ module _ (limit : ℕ) (start : State) (m : Moment) (ms : List Moment) (A : All 
         as_number u.0.number (cc) (moved u.0.number (E.due u.0 u.1)))
     | Job_is.plain x action runs next_is is_plain goes rec st ↦
         as_number x.subject goes.subject (moved x.subject (E.repair k x runs (sym goes.kind ∙ kind)))
-    | Job_is.drew x runs next_is free is rec ↦ (let kx : x.kind ≡ RepairJob = cc in
-        as_number x.subject (cc) (moved x.subject (E.repair k x runs kx)))
+    | Job_is.drew x runs next_is free is rec ↦ (as_number x.subject (cc)
+        (moved x.subject (E.repair k x runs cc)))
     | Job_is.finished x a runs next_is flight mine is rec free ↦
         as_number x.subject (cc) (moved x.subject (E.repair k x runs (cc)))
   ]
@@ -1035,20 +878,7 @@ module _ (limit : ℕ) (start : State) (m : Moment) (ms : List Moment) (A : All 
       as_number : (n : ℕ) → j.subject ≡ n → (n < next_audit m.state.records) ×
           PrecedesPuts start (m ∷ ms) (m.state.audits n) →
           (j.subject < next_audit m.state.records) × PrecedesPuts start (m ∷ ms) (m.state.audits j.subject)
-      as_number n e P = subst
-          (λ x. (x < next_audit m.state.records) × PrecedesPuts start (m ∷ ms) (m.state.audits x)) (sym e) P
-
-  repair_doubt_begins : (d : Doubt) (number : ℕ) → m.state.doubt ≡ Some d → d.entry ≡ RepairDone number →
-      (number < next_audit m.state.records) × PrecedesPuts start (m ∷ ms) (m.state.audits number)
-  repair_doubt_begins d number h e = elim (T.doubt d h) [
-    | Doubt_now.kept was rec ↦ moved number (E.repair_doubt d number was e)
-    | Doubt_now.gated job a runs next_is flight mine entry_is maker rec on ↦
-        (let g = repair_gated job a number runs flight mine (sym entry_is ∙ e) in
-        moved number (subst (λ x. (x < next_audit w.records) × PrecedesPuts start ms (w.audits x))
-        (sym g.subject) (E.repair job.number job runs g.kind)))
-    | Doubt_now.set_up t entry_is bare none closed ↦
-        absurd (let z : SetUp t ≡ RepairDone number = sym entry_is ∙ e in cc)
-  ]
+      as_number n e P = rw (← e) at P
 
   -- so does that of the last settled audit
   mark_begins : PrecedesPuts start (m ∷ ms) (since start (m ∷ ms))
@@ -1061,8 +891,7 @@ module _ (limit : ℕ) (start : State) (m : Moment) (ms : List Moment) (A : All 
       as_came : (o : Option Record) → came w m.state ≡ o →
           PrecedesPuts start (m ∷ ms) (mark_after m.state (settled_by (setup_in m.state) o)
           (since start ms)) → PrecedesPuts start (m ∷ ms) (since start (m ∷ ms))
-      as_came o e P = subst
-          (λ z. PrecedesPuts start (m ∷ ms)
+      as_came o e P = subst (λ z. PrecedesPuts start (m ∷ ms)
           (mark_after m.state (settled_by (setup_in m.state) z) (since start ms))) (sym e) P
 
       by_entry : (d : Doubt) → w.doubt ≡ Some d → (r : Record) → d.entry ≡ r →
@@ -1082,36 +911,135 @@ module _ (limit : ℕ) (start : State) (m : Moment) (ms : List Moment) (A : All 
       Always start (m ∷ ms)
   always_step lone_open lone_sure = record {
     gated = X.gated E.gated;
-    setup_doubt = setup_doubt_step;
+    setup_doubt = λ d s h e. elim (T.doubt d h) [
+      | Doubt_now.kept was rec ↦ cc (E.setup_doubt d s was e)
+      | Doubt_now.gated job a runs next_is flight mine entry_is maker rec on ↦
+          absurd (wrote_of job job.kind a.entry _ (A.pins.wrote a job flight (cc)) (sym entry_is ∙ e))
+      | Doubt_now.set_up t entry_is bare none closed ↦ none
+    ];
     profiles = prof.step_facts limit start m ms A.numbers A.pins E.profiles X;
     put_held = put_held_step;
     put_columns = put_columns_step;
-    put_own = put_own_step;
+    put_own = λ d id size p k x name bytes h e runs_on kind late mine_x. elim (T.doubt d h) [
+      | Doubt_now.kept was rec ↦ (let y = was_put k x name bytes runs_on kind late rec in
+          y.profile ∙ E.put_own d id size p k y.before name bytes was
+          (ends_same d id size p rec e) y.runs y.kind y.late (sym y.subject ∙ mine_x))
+      | Doubt_now.gated job a runs next_is flight mine entry_is maker rec on ↦
+          (let y = was_put k x name bytes runs_on kind late rec in let old = ends_same d id size p rec e in
+          let g = gated_put job a id runs flight mine (cc (ends_ended w.records d.entry id size p old)) in
+          y.profile ∙ (one_put job g.0 g.1 y.before name bytes runs g.2 g.3
+          (cc (number_of w.jobs k y.before y.runs)) y.kind y.late (cc) ∙ gated_profile job a d g.0 g.1 id size
+          p
+          runs flight mine entry_is g.2 g.3 old))
+      | Doubt_now.set_up t entry_is bare none_up closed ↦
+          absurd (let z : None ≡ Some id = cc (ends_ended m.state.records d.entry id size p e) in cc)
+    ];
     lone_open = lone_open;
     lone_sure = lone_sure;
-    doubt_put = doubt_put_step;
+    doubt_put = λ d job id h maker e. elim (T.doubt d h) [
+      | Doubt_now.kept was rec ↦ E.doubt_put d job id was maker e
+      | Doubt_now.gated x a runs next_is flight mine entry_is maker_is rec on ↦
+          (let g = gated_put x a id runs flight mine (cc) in let same : job ≡ advanced x = cc in
+          (g.0, g.1, cc))
+      | Doubt_now.set_up t entry_is bare none closed ↦ absurd (let z : None ≡ Some id = cc in cc)
+    ];
     doubt_runs = doubt_runs_step;
-    audit_entry = audit_entry_step;
-    repair_entry = repair_entry_step;
+    audit_entry = λ a j number u c h hj kind e. elim (X.append a h) [
+      | Append_is.kept b flight job_is entry rec ↦ elim (X.job a.job j hj) [
+        | Job_is.kept r grown ↦ E.audit_entry b j number u c flight (cc) kind (sym entry ∙ e)
+        | Job_is.begun kd wish is k_is allowed rec2 ↦ absurd
+            (let l = A.numbers.holder b flight in omega arith)
+        | Job_is.plain x action runs next_is is_plain goes rec2 st ↦
+            (let g = E.audit_entry b x number u c flight (cc) (sym goes.kind ∙ kind) (sym entry ∙ e) in
+            (g.0 ∙ sym goes.subject, (let p = goes.place in let l = g.1 in omega arith)))
+        | Job_is.drew x runs next_is free is rec2 ↦ absurd (some-not-none w.append b flight free)
+        | Job_is.finished x d runs next_is flight_d mine is rec2 free ↦
+            absurd (some-not-none m.state.append a h free)
+      ]
+      | Append_is.drew x runs next_is mine writes found rec ↦ (let is = same_value _ j _ (cc) found in
+          let place : j.place ≡ x.place + 1 = cc in let kx : x.kind ≡ AuditJob = cc in
+          let g = audit_writes w x x.kind a.entry number u c kx writes e in (
+            cc (drawn_later w x x.kind (first_above x g.1)),
+            (let l = g.1 in omega arith),
+          ))
+    ];
+    repair_entry = λ a j number h hj kind e. elim (X.append a h) [
+      | Append_is.kept b flight job_is entry rec ↦ elim (X.job a.job j hj) [
+        | Job_is.kept r grown ↦ E.repair_entry b j number flight (cc) kind (sym entry ∙ e)
+        | Job_is.begun kd wish is k_is allowed rec2 ↦ absurd
+            (let l = A.numbers.holder b flight in omega arith)
+        | Job_is.plain x action runs next_is is_plain goes rec2 st ↦
+            E.repair_entry b x number flight (cc) (sym goes.kind ∙ kind) (sym entry ∙ e) ∙ sym goes.subject
+        | Job_is.drew x runs next_is free is rec2 ↦ absurd (some-not-none w.append b flight free)
+        | Job_is.finished x d runs next_is flight_d mine is rec2 free ↦
+            absurd (some-not-none m.state.append a h free)
+      ]
+      | Append_is.drew x runs next_is mine writes found rec ↦ (let is = same_value _ j _ (cc) found in
+          let kx : x.kind ≡ RepairJob = cc in cc (repair_writes w x x.kind a.entry number kx writes e))
+    ];
     audit_fresh = audit_fresh_step;
     audit_kept = audit_kept_step;
-    pinned = pinned_step;
-    one_pin = one_pin_step;
+    pinned = λ k j f h in_f. elim (pins_is limit start m ms A.numbers A.pins X k j h) [
+      | Pins_is.had x runs pinned kind begun g ↦
+          (let in_x = subst (In f) pinned in_f in E.pinned k x f runs in_x
+          ∙ sym (X.bytes f.id (A.pins.pins k x f runs in_x).0))
+      | Pins_is.new_one kd wish is k_is allowed rec ↦
+          (let st = pinned_stands w kd f (subst (λ x. In f x.pinned) is in_f) in
+          let id_is : f.id ≡ st.file.id = cc in ap (λ x. x.bytes) st.is ∙ (ap w.bytes (sym id_is)
+          ∙ sym (X.bytes f.id (let l = file_below A st.name st.file st.in_effect in omega arith))))
+    ];
+    one_pin = λ k l j i f g h h2 in_f in_g e. elim (pins_is limit start m ms A.numbers A.pins X k j h) [
+      | Pins_is.had x runs pinned kind begun growth ↦
+          elim (pins_is limit start m ms A.numbers A.pins X l i h2) [
+            | Pins_is.had y runs_y pinned_y kind_y begun_y growth_y ↦
+                E.one_pin k l x y f g runs runs_y (rw pinned at in_f) (rw pinned_y at in_g) e
+            | Pins_is.new_one kd wish is k_is allowed rec ↦ (let st = new_file i kd wish g is in_g in
+                E.pin_file k x f st.name st.file runs (rw pinned at in_f) st.in_effect (cc) ∙ sym (cc))
+          ]
+      | Pins_is.new_one kd wish is k_is allowed rec ↦
+          elim (pins_is limit start m ms A.numbers A.pins X l i h2) [
+            | Pins_is.had y runs_y pinned_y kind_y begun_y growth_y ↦
+                (let st = new_file j kd wish f is in_f in
+                cc (E.pin_file l y g st.name st.file runs_y (rw pinned_y at in_g) st.in_effect (sym e
+                ∙ ap (λ z. z.id) st.is)))
+            | Pins_is.new_one kd2 wish2 is2 k_is2 allowed2 rec2 ↦ cc (stands_once w A.pins.sound f g
+                (new_file j kd wish f is in_f) (new_file i kd2 wish2 g is2 in_g) e)
+          ]
+    ];
     pin_file = pin_file_step;
-    audit = audit_begins;
-    audit_doubt = audit_doubt_begins;
+    -- no put that works began before a running audit
+    audit = λ k j h kind. elim (pins_is limit start m ms A.numbers A.pins X k j h) [
+      | Pins_is.had x runs pinned kind_x begun g ↦ subst (PrecedesPuts start (m ∷ ms)) (sym begun)
+          (before_on x.begun (E.audit k x runs (sym kind_x ∙ kind)))
+      | Pins_is.new_one kd wish is k_is allowed rec ↦ (let kd_is : kd ≡ AuditJob = cc in
+          subst (PrecedesPuts start (m ∷ ms)) (cc) (audit_new k j wish h (cc)))
+    ];
+    audit_doubt = λ d number u c h e. elim (T.doubt d h) [
+      | Doubt_now.kept was rec ↦ moved number (E.audit_doubt d number u c was e)
+      | Doubt_now.gated job a runs next_is flight mine entry_is maker rec on ↦
+          (let g = audit_gated job a number u c runs flight mine (sym entry_is ∙ e) in
+          moved number (g.below, (rw (← g.begins) at (E.audit job.number job runs g.kind))))
+      | Doubt_now.set_up t entry_is bare none closed ↦ absurd (cc (sym entry_is ∙ e))
+    ];
     due = due_begins;
     repair = repair_begins;
-    repair_doubt = repair_doubt_begins;
+    repair_doubt = λ d number h e. elim (T.doubt d h) [
+      | Doubt_now.kept was rec ↦ moved number (E.repair_doubt d number was e)
+      | Doubt_now.gated job a runs next_is flight mine entry_is maker rec on ↦
+          (let g = repair_gated job a number runs flight mine (sym entry_is ∙ e) in
+          moved number (rw (← g.subject) at (E.repair job.number job runs g.kind)))
+      | Doubt_now.set_up t entry_is bare none closed ↦ absurd (cc (sym entry_is ∙ e))
+    ];
     mark = mark_begins;
   }
 
 -- ---- what runs alone
 
-module _ (limit : ℕ) (start : State) (m : Moment) (ms : List Moment) (A : All start ms) (E : Always start ms)
-    (X : Changes limit (length ms) (now start ms) m.event m.outcome m.state)
+module _ {limit : ℕ} {start : State} {m : Moment} {ms : List Moment} (N : Around limit start m ms)
     (S : (scrub : Scrub) → m.state.alone ≡ Some (Scrubbing scrub) →
     Scrub_is (length ms) m.event (now start ms) m.state scrub) where
+  open N use {facts as A, kept as E, changed as X}
+
   -- a scrub runs in an open vault, and no record is in doubt
   lone_open_by : (scrub : Scrub) → Scrub_is (length ms) m.event (now start ms) m.state scrub →
       m.state.is_open ≡ true
@@ -1172,12 +1100,12 @@ always limit start clean [] run = start_always limit start clean
 always limit start clean (m ∷ ms) run = go (always limit start clean ms run.2)
   where
     go : Always start ms → Always start (m ∷ ms)
-    go E =
-        (let A = all limit start clean ms run.2 in
-        let X = changes limit (length ms) (now start ms) m.event m.outcome m.state A.numbers.idle run.1 in
-        let S = scrub_is (length ms) (now start ms) A.numbers.idle.lone E.lone_open limit m.event m.outcome
-        m.state run.1 in
-        always_step limit start m ms A (num.facts audits limit start clean ms run.2)
-        (eff.facts limit start ms clean run.2) E X
-        (turns (now start ms) limit (length ms) m.event m.outcome m.state run.1)
-        (lone_open_step limit start m ms A E X S) (lone_sure_step limit start m ms A E X S))
+    go E = (let N = around_by limit start m ms clean run E in
+        let S = scrub_is (length ms) (now start ms) N.facts.numbers.idle.lone E.lone_open limit m.event
+        m.outcome m.state run.1 in always_step N
+        (lone_open_step N S) (lone_sure_step N S))
+
+-- what holds before an event of a run, and what it changes
+pub around : (limit : ℕ) (start : State) (m : Moment) (ms : List Moment) → IsStart start →
+    IsRun limit start (m ∷ ms) → Around limit start m ms
+around limit start m ms clean run = around_by limit start m ms clean run (always limit start clean ms run.2)

@@ -1,5 +1,5 @@
 -- Steps left fall.
-use Rattle.second_half_laws.proofs.Words.{◌⊎◌, ◌-◌, ◌&&◌, true, cond, refl, ap, sym, subst, ◌∙◌, inl, inr, arith, slice_get, drop, count_by, nat_lt, flat_map, cases_Bool, and_parts, and_from, lt-ltb, ltb-true, false≢true, Each, each_get, get_behind, upto, Setup, File, Kind, PutJob, GetJob, DropJob, AuditJob, RepairJob, UpgradeJob, aim_of, Given, Job, job_of, advanced, advanced_with, profiled, stripes_of, Action, SyncBody, WriteGate, SyncGate, Store, Fetch, Ask, Work, Remove, End, append_actions, on_each_provider, on_each_stripe, store_actions, read_actions, repair_actions, ask_actions, remove_actions, actions_by, actions_of, ends_append, Step, More, State, IsStart, setup_in, file_in, is_pinned, removable, is_first_append, subject_drawn, taken_out, next_action, Moment, now, IsRun, cond_false, found_none, split_get, Changes, changes, setup_stays, first_above, All, all, actions_are, PutAt, put_at, gate_is_last}
+use Rattle.second_half_laws.proofs.Words.{◌⊎◌, ◌-◌, ◌&&◌, true, cond, refl, ap, sym, subst, ◌∙◌, inl, inr, arith, slice_get, drop, count_by, nat_lt, flat_map, cases_Bool, and_parts, and_from, lt-ltb, ltb-true, false≢true, Each, each_get, get_behind, upto, Setup, File, Kind, PutJob, GetJob, DropJob, AuditJob, RepairJob, UpgradeJob, aim_of, Given, Job, job_of, advanced, advanced_with, profiled, stripes_of, Action, SyncGate, Store, Fetch, Remove, End, append_actions, on_each_provider, on_each_stripe, store_actions, read_actions, repair_actions, ask_actions, remove_actions, actions_by, actions_of, ends_append, Step, More, State, IsStart, setup_in, file_in, is_pinned, removable, is_first_append, subject_drawn, taken_out, next_action, Moment, now, IsRun, cond_false, found_none, split_get, Changes, changes, setup_stays, first_above, All, all, actions_are, PutAt, put_at, gate_is_last}
 use Rattle.std.proofs.Common.{◌≡◌, ℕ, zero, suc, ◌+◌, ◌<◌, ◌≤◌, Bool, false, List, [], ◌∷◌, ◌++◌, length, map, Option, Some, None}
 use Rattle.std.proofs.lemmas.List.{length-append, length-map, map-append, drop-map, length-drop}
 use Rattle.std.proofs.lemmas.List.FromFn.{length-map-range_with_len}
@@ -26,7 +26,7 @@ count_cons : {X : Type 0} (p : X → Bool) (x : X) (xs : List X) →
 count_cons p x xs = sum_by-cons (λ y. cond (p y) 1 0) x xs
 
 drop_here : (l : List Action) (p : ℕ) (a : Action) → slice_get l p ≡ Some a → drop p l ≡ a ∷ drop (p + 1) l
-drop_here [] p a h = (let e : None ≡ Some a = h in cc)
+drop_here [] p a h = (cc h)
 drop_here (x ∷ l) zero a h = (let e : Some x ≡ Some a = h in let f : x ≡ a = cc in ap (λ y. y ∷ l) f)
 drop_here (x ∷ l) (suc p) a h =
     drop_here l p a h ∙ ap (λ n. a ∷ drop n (x ∷ l)) (let e : suc (p + 1) ≡ suc p + 1 = omega arith in e)
@@ -44,11 +44,7 @@ shape_length p k l e = cc (
 
 count_shape : (l : List Action) → count_by ends_append l ≡ count_by (λ b. b) (shape l)
 count_shape [] = refl
-count_shape (x ∷ l) = cc (
-  count_cons ends_append x l,
-  count_shape l,
-  count_cons _ _ _,
-)
+count_shape (x ∷ l) = cc (count_cons ends_append x l, count_shape l, count_cons _ _ _)
 
 shape_count : (p : ℕ) (k l : List Action) → shape k ≡ shape l →
     count_by ends_append (drop p k) ≡ count_by ends_append (drop p l)
@@ -62,12 +58,11 @@ shape_count p k l e = cc (
 count_none : (l : List Action) → Each (λ a. ends_append a ≡ false) l → count_by ends_append l ≡ 0
 count_none [] h = refl
 count_none (x ∷ l) h =
-    (let e = count_cons ends_append x l in let f = one_if-false (ends_append x) h.0 in
-    let g = count_none l h.1 in omega (arith, e, f, g))
+    (omega (arith, count_cons ends_append x l, one_if-false (ends_append x) h.0, count_none l h.1))
 
 count_some : (l : List Action) (q p : ℕ) → slice_get l p ≡ Some SyncGate → q ≤ p →
     0 < count_by ends_append (drop q l)
-count_some [] q p h k = (let e : None ≡ Some SyncGate = h in cc)
+count_some [] q p h k = (cc h)
 count_some (x ∷ l) zero zero h k = (let e : Some x ≡ Some SyncGate = h in let f : x ≡ SyncGate = cc in
     let g : one_if (ends_append x) ≡ one_if (ends_append SyncGate) = cc in
     let c = count_cons ends_append x l in omega (arith, g, c))
@@ -91,17 +86,13 @@ left_next t x j action at place same = (let front = drop_here (actions_of t x) x
     let len : length (drop (x.place + 1) (actions_of t x)) ≡ length (left_of t j) =
     cc (shape_length _ _ _ same) in
     let count : count_by ends_append (drop (x.place + 1) (actions_of t x)) ≡ count_by ends_append
-    (left_of t j) = cc (shape_count _ _ _ same) in (
-      cc,
-      cc (count_cons _ action _),
-    ))
+    (left_of t j) = cc (shape_count _ _ _ same) in (cc, cc (count_cons _ action _)))
 
 -- an action that ends no append
 plain_falls : (t : Setup) (x j : Job) (action : Action) → slice_get (actions_of t x) x.place ≡ Some action →
     j.place ≡ x.place + 1 → x.kind ≡ j.kind → shape (actions_of t j) ≡ shape (actions_of t x) →
     ends_append action ≡ false → (most_left t x ≡ suc (most_left t j)) × (is_undecided t x ≡ is_undecided t j)
-plain_falls t x j action at place kind same no_gate =
-    (let l = left_next t x j action at place same in
+plain_falls t x j action at place kind same no_gate = (let l = left_next t x j action at place same in
     let count : count_by ends_append (left_of t x) ≡ count_by ends_append (left_of t j) =
     (let e = l.1 in let f = one_if-false (ends_append action) no_gate in omega (arith, e, f)) in
     let one : (n : ℕ) → suc (length (left_of t j)) + n ≡ suc (length (left_of t j) + n) =
@@ -115,8 +106,7 @@ gate_falls : (t : Setup) (x j : Job) → slice_get (actions_of t x) x.place ≡ 
     j.place ≡ x.place + 1 → x.kind ≡ j.kind → shape (actions_of t j) ≡ shape (actions_of t x) →
     (removes_older (aim_of j.kind) ≡ false) ⊎ (0 < count_by ends_append (left_of t j)) →
     most_left t x ≡ suc (most_left t j)
-gate_falls t x j at place kind same which =
-    (let l = left_next t x j SyncGate at place same in
+gate_falls t x j at place kind same which = (let l = left_next t x j SyncGate at place same in
     let some : removes_older (aim_of j.kind) && nat_lt 0 (count_by ends_append (left_of t x))
     ≡ removes_older (aim_of j.kind) && nat_lt 0 (count_by ends_append (left_of t j)) = elim which [
       | inl none ↦ cc
@@ -147,11 +137,9 @@ tail_length t l = length-append (removes_by t l) (End ∷ [])
 few_length : (t : Setup) (l : List ℕ) → FewOlder l →
     ((l ≡ []) × (length (removes_by t l) ≡ 0)) ⊎ (length (removes_by t l) ≡ t.n)
 few_length t l (inl e) = inl (e, cc)
-few_length t l (inr (o, e)) =
-    inr (ap (λ k. length (removes_by t k)) e
+few_length t l (inr (o, e)) = inr (ap (λ k. length (removes_by t k)) e
     ∙ (length-append (on_each_provider t (λ j. Remove j o)) []
-    ∙ (let f : length (on_each_provider t (λ j. Remove j o)) ≡ t.n =
-    length-map-range_with_len (λ j. Remove j o) 0 t.n in omega (arith, f))))
+    ∙ (omega (arith, length-map-range_with_len (λ j. Remove j o) 0 t.n))))
 
 -- by one, or by the removals that are skipped and one
 abbrev pub FallsBy : Setup → Job → Job → Type 0
@@ -195,21 +183,19 @@ put_gate : (w : State) (x : Job) (name bytes : List ℕ) (p : ℕ) →
 put_gate w x name bytes p h = elim (put_at w x name bytes p SyncGate h) [
   | PutAt.first l e ↦ inl (gate_is_last p e)
   | PutAt.store l m is ↦ absurd is
-  | PutAt.second q is l e ↦ inr (let z = gate_is_last q e in omega (arith, is, z))
+  | PutAt.second q is l e ↦ inr (omega (arith, is, gate_is_last q e))
   | PutAt.after l is ↦ absurd is
 ]
 
 drop_tail : (ss tail : List Action) →
     drop (8 + length ss) (append_actions ++ (ss ++ (append_actions ++ tail))) ≡ tail
-drop_tail ss tail = ap (λ n. drop n (append_actions ++ (ss ++ (append_actions ++ tail))))
-    (let e : 8 + length ss ≡ length append_actions + (length ss + 4) = omega arith in e)
+drop_tail ss tail = ap (λ n. drop n (append_actions ++ (ss ++ (append_actions ++ tail)))) (omega arith)
     ∙ (drop-append-add append_actions (ss ++ (append_actions ++ tail)) (length ss + 4)
     ∙ drop-append-add ss (append_actions ++ tail) 4)
 
 gate_stands : (ss tail : List Action) →
     slice_get (append_actions ++ (ss ++ (append_actions ++ tail))) (7 + length ss) ≡ Some SyncGate
-gate_stands ss tail = ap (λ n. slice_get (append_actions ++ (ss ++ (append_actions ++ tail))) n)
-    (let e : 7 + length ss ≡ length append_actions + (length ss + 3) = omega arith in e)
+gate_stands ss tail = ap (λ n. slice_get (append_actions ++ (ss ++ (append_actions ++ tail))) n) (omega arith)
     ∙ get_behind append_actions (ss ++ (append_actions ++ tail)) (length ss + 3) SyncGate
     (get_behind ss (append_actions ++ tail) 3 SyncGate refl)
 
@@ -222,9 +208,8 @@ Falls t x j = FallsBy t x j × (is_undecided t j ≡ true → j.older ≡ [])
 
 undecided_now : (t : Setup) (x : Job) → removes_older (aim_of x.kind) ≡ true →
     slice_get (actions_of t x) x.place ≡ Some SyncGate → is_undecided t x ≡ true
-undecided_now t x removes at =
-    and_from (removes_older (aim_of x.kind)) (nat_lt 0 (count_by ends_append (left_of t x))) removes
-    (lt-ltb 0 (count_by ends_append (left_of t x))
+undecided_now t x removes at = and_from (removes_older (aim_of x.kind))
+    (nat_lt 0 (count_by ends_append (left_of t x))) removes (lt-ltb 0 (count_by ends_append (left_of t x))
     (count_some (actions_of t x) x.place x.place at (omega arith)))
 
 decided_then : (t : Setup) (j : Job) → left_of t j ≡ remove_actions t j ++ End ∷ [] →
@@ -287,17 +272,15 @@ module _ (w : State) (x : Job) (next_at : slice_get (actions_of (setup_in w) x) 
           (first_above x (omega (arith, far))))) (removable_few w (file_in w name)) in (
             decides t x (with_older x l) removes tail_x none tail_j few (undecided_now t x removes next_at)
                 (decided_now t (with_older x l) tail_j),
-            λ h. absurd
-                (decided_then t (with_older x l) tail_j h),
+            λ h. absurd (decided_then t (with_older x l) tail_j h),
           ))
 
   drop_gate_at : (name : List ℕ) → slice_get (actions_by t x (DropJob name)) x.place ≡ Some SyncGate →
       x.place ≡ 3
   drop_gate_at name h = elim (split_get append_actions (remove_actions t x ++ End ∷ []) x.place SyncGate h) [
     | inl a ↦ gate_is_last x.place a.1
-    | inr b ↦ absurd (let e = each_get (λ a. ends_append a ≡ false) (remove_actions t x ++ End ∷ [])
-        (x.place - 4) SyncGate (tail_all t x (λ a. ends_append a ≡ false) (λ i o. refl) refl) b.1 in
-        false≢true (sym e))
+    | inr b ↦ absurd (false≢true (sym (each_get (λ a. ends_append a ≡ false) (remove_actions t x ++ End ∷ [])
+        (x.place - 4) SyncGate (tail_all t x (λ a. ends_append a ≡ false) (λ i o. refl) refl) b.1)))
   ]
 
   finish_drop : (name l : List ℕ) → x.kind ≡ DropJob name → l ≡ taken_out w x (DropJob name) →
@@ -353,18 +336,15 @@ stores_shape : (t : Setup) (p n m : ℕ) (bytes : List ℕ) (rest : List Action)
     (λ stripe. on_each_provider t (λ j. Store j n stripe)) ++ rest)
     ≡ shape (on_each_stripe (profiled t p) (length bytes)
     (λ stripe. on_each_provider t (λ j. Store j m stripe)) ++ rest)
-stores_shape t p n m bytes rest =
-    (let k = on_each_stripe (profiled t p) (length bytes) (λ stripe. on_each_provider t
-    (λ j. Store j n stripe)) in
-    let l = on_each_stripe (profiled t p) (length bytes) (λ stripe. on_each_provider t
-    (λ j. Store j m stripe)) in
-    cc (
-      map-append ends_append k rest,
-      flat_shape (λ stripe. on_each_provider t (λ j. Store j n stripe))
-          (λ stripe. on_each_provider t (λ j. Store j m stripe)) (upto (stripes_of (profiled t p) (length bytes)))
-          (λ stripe. store_shape n m stripe (upto t.n)),
-      map-append ends_append l rest,
-    ))
+stores_shape t p n m bytes rest = (cc (
+  map-append ends_append (on_each_stripe (profiled t p) (length bytes) (λ stripe. on_each_provider t
+      (λ j. Store j n stripe))) rest,
+  flat_shape (λ stripe. on_each_provider t (λ j. Store j n stripe))
+      (λ stripe. on_each_provider t (λ j. Store j m stripe)) (upto (stripes_of (profiled t p) (length bytes)))
+      (λ stripe. store_shape n m stripe (upto t.n)),
+  map-append ends_append (on_each_stripe (profiled t p) (length bytes) (λ stripe. on_each_provider t
+      (λ j. Store j m stripe))) rest,
+))
 
 abbrev with_subject : Job → ℕ → Job
 with_subject x n = record (advanced x) { subject = n }
@@ -380,16 +360,11 @@ subject_shape t x n kind = refl
 gift_plain : (old : State) (x : Job) (new : State) (action : Action) (gift : Given) →
     IsGift old x new action gift → ends_append action ≡ false
 gift_plain old x new (Fetch i o s) gift g = refl
-gift_plain old x new (Ask i o r) gift g = refl
-gift_plain old x new (Work o s) gift g = refl
-gift_plain old x new action gift g = absurd g
+gift_plain old x new action gift g = search (refl, absurd)
 
 silent_plain : (action : Action) → IsSilent action → ends_append action ≡ false
 silent_plain (Store i o s) h = refl
-silent_plain (Remove i o) h = refl
-silent_plain SyncBody h = refl
-silent_plain WriteGate h = refl
-silent_plain action h = absurd h
+silent_plain action h = search (refl, absurd)
 
 -- one step of a job
 one_step : (old : State) (x : Job) (action : Action) (new : State) (j : Job) →
@@ -414,8 +389,7 @@ one_step old x action new j next_is settled passed = go passed
         (gift_plain old x new action gift is_gift)
     go (Passed.drew act is rec) = plain (with_subject x (subject_drawn old x x.kind)) is refl refl refl
         (subject_shape (setup_in old) x (subject_drawn old x x.kind) x.kind) (ap ends_append act)
-    go (Passed.finished a act flight mine is rec) =
-        subst (Falls (setup_in old) x) (sym is)
+    go (Passed.finished a act flight mine is rec) = subst (Falls (setup_in old) x) (sym is)
         (finish old x (at ∙ ap Some act) settled x.kind (taken_out old x x.kind) refl refl)
 
 -- ---- a job that runs has not yet made its end
@@ -428,18 +402,17 @@ ongoing_end : Ongoing (End ∷ [])
 ongoing_end = (omega arith, λ p a h. inl (end_at p a h))
   where
     end_at : (p : ℕ) (a : Action) → slice_get (End ∷ []) p ≡ Some a → a ≡ End
-    end_at zero a h = (let e : Some End ≡ Some a = h in let f : End ≡ a = cc in sym f)
-    end_at (suc p) a h = (let e : None ≡ Some a = h in cc)
+    end_at zero a h = (let e = h in sym cc)
+    end_at (suc p) a h = cc h
 
 ongoing_behind : (xs ys : List Action) → Ongoing ys → Ongoing (xs ++ ys)
-ongoing_behind xs ys o =
-    (let e = length-append xs ys in
+ongoing_behind xs ys o = (let e = length-append xs ys in
     let some = o.0 in (
       omega (arith, e, some),
       λ p a h. elim (split_get xs ys p a h) [
-        | inl u ↦ inr (let l = u.0 in omega (arith, e, some, l))
+        | inl u ↦ inr (omega (arith, e, some, u.0))
         | inr u ↦ elim (o.1 (p - length xs) a u.1)
-            [ inl is ↦ inl is | inr l ↦ inr (let k = u.0 in omega (arith, e, l, k)) ]
+            [ inl is ↦ inl is | inr l ↦ inr (omega (arith, e, l, u.0)) ]
       ],
     ))
 
@@ -460,7 +433,7 @@ ongoing t x RepairJob = ongoing_behind (repair_actions t x) (append_actions ++ E
 ongoing t x UpgradeJob = ongoing_behind append_actions (End ∷ []) ongoing_end
 
 goes_within : (t : Setup) (x : Job) → Ongoing (actions_of t x)
-goes_within t x = subst Ongoing (sym (list_is t x)) (ongoing t x x.kind)
+goes_within t x = rw (← (list_is t x)) at (ongoing t x x.kind)
 
 -- ---- at each moment of a run
 
@@ -478,23 +451,6 @@ module _ (limit : ℕ) (start : State) (m : Moment) (ms : List Moment) (A : All 
   abbrev w : State
   w = now start ms
 
-  within_step : (k : ℕ) (j : Job) → job_of m.state.jobs k ≡ Some j →
-      j.place < length (actions_of (setup_in m.state) j)
-  within_step k j h = subst (λ t. j.place < length (actions_of t j))
-      (sym (setup_stays limit start m ms A.numbers A.pins X k j h)) (elim (W.job k j h) [
-        | Went.kept r apart ↦ F.within k j r
-        | Went.begun kind wish is k_is rec ↦ (let e : j.place ≡ 0 = cc in
-            let l = (goes_within (setup_in w) j).0 in omega (arith, e, l))
-        | Went.went x action g ↦ (let at : slice_get (actions_of (setup_in w) j) x.place ≡ Some action =
-            list_before w x action m.state j x.place g.next g.passed (omega arith)
-            ∙ list_now w x action m.state j g.next g.passed in
-            let place = passed_place w x action m.state j g.passed in
-            elim ((goes_within (setup_in w) j).1 x.place action at) [
-              | inl e ↦ absurd (passed_not_end w x action m.state j g.passed e)
-              | inr l ↦ omega (arith, l, place)
-            ])
-      ])
-
   older_step : (k : ℕ) (j : Job) → job_of m.state.jobs k ≡ Some j → is_undecided (setup_in m.state) j ≡ true →
       j.older ≡ []
   older_step k j h undecided = elim (W.job k j h) [
@@ -509,7 +465,20 @@ module _ (limit : ℕ) (start : State) (m : Moment) (ms : List Moment) (A : All 
   step_facts : Facts start (m ∷ ms)
   step_facts = record {
     made = made.step_facts limit start m ms A F.made X W;
-    within = within_step;
+    within = λ k j h. subst (λ t. j.place < length (actions_of t j))
+        (sym (setup_stays limit start m ms A.numbers A.pins X k j h)) (elim (W.job k j h) [
+          | Went.kept r apart ↦ F.within k j r
+          | Went.begun kind wish is k_is rec ↦ (let e : j.place ≡ 0 = cc in
+              let l = (goes_within (setup_in w) j).0 in omega (arith, e, l))
+          | Went.went x action g ↦ (let at : slice_get (actions_of (setup_in w) j) x.place ≡ Some action =
+              list_before w x action m.state j x.place g.next g.passed (omega arith)
+              ∙ list_now w x action m.state j g.next g.passed in
+              let place = passed_place w x action m.state j g.passed in
+              elim ((goes_within (setup_in w) j).1 x.place action at) [
+                | inl e ↦ absurd (passed_not_end w x action m.state j g.passed e)
+                | inr l ↦ omega (arith, l, place)
+              ])
+        ]);
     older = older_step;
   }
 
@@ -520,8 +489,7 @@ module _ (limit : ℕ) (start : State) (m : Moment) (ms : List Moment) (A : All 
   stayed k before job runs h other = ap (λ t. most_left t job)
       (setup_stays limit start m ms A.numbers A.pins X k job h) ∙ elim (W.job k job h) [
         | Went.kept r apart ↦ cc
-        | Went.begun kind wish is k_is rec ↦
-            absurd (let l = A.numbers.jobs_below k before runs in omega (arith, l, k_is))
+        | Went.begun kind wish is k_is rec ↦ absurd (omega (arith, A.numbers.jobs_below k before runs, k_is))
         | Went.went x action g ↦ absurd (other g.event g.outcome)
       ]
 
@@ -530,14 +498,13 @@ module _ (limit : ℕ) (start : State) (m : Moment) (ms : List Moment) (A : All 
       m.event ≡ Step k → m.outcome ≡ More → (most_left (setup_in w) before ≡ suc (most_left (setup_in m.state)
       job)) ⊎ (SkipsRemovals (setup_in m.state) before job × (most_left (setup_in w) before ≡ suc
       (most_left (setup_in m.state) job + (setup_in m.state).n)))
-  fell k before job runs h event outcome =
-      subst (λ t. (most_left (setup_in w) before ≡ suc (most_left t job)) ⊎ (SkipsRemovals t before job
-      × (most_left (setup_in w) before ≡ suc (most_left t job + t.n)))) (sym (setup_stays limit start m ms
-      A.numbers A.pins X k job h)) (elim (W.job k job h) [
+  fell k before job runs h event outcome = subst (λ t. (most_left (setup_in w) before ≡ suc (most_left t job))
+      ⊎ (SkipsRemovals t before job × (most_left (setup_in w) before ≡ suc (most_left t job + t.n))))
+      (sym (setup_stays limit start m ms A.numbers A.pins X k job h)) (elim (W.job k job h) [
         | Went.kept r apart ↦ absurd (apart event outcome)
         | Went.begun kind wish is k_is rec ↦
             absurd (let l = A.numbers.jobs_below k before runs in omega (arith, l, k_is))
-        | Went.went x action g ↦ subst (λ (y : Job). FallsBy (setup_in w) y job) (cc) (one_step w x action
+        | Went.went x action g ↦ subst (λ y. FallsBy (setup_in w) y job) (cc) (one_step w x action
             m.state job g.next (F.older k x g.runs) g.passed).0
       ])
 
@@ -547,12 +514,10 @@ pub facts : (limit : ℕ) (start : State) → IsStart start → (ms : List Momen
 facts limit start clean [] run =
     record {
       made = made.start_facts start clean;
-      within =
-          λ k j h. absurd (found_none start.jobs k j clean.jobs h);
+      within = λ k j h. absurd (found_none start.jobs k j clean.jobs h);
       older = λ k j h undecided. absurd (found_none start.jobs k j clean.jobs h);
     }
-facts limit start clean (m ∷ ms) run =
-    (let A = all limit start clean ms run.2 in
+facts limit start clean (m ∷ ms) run = (let A = all limit start clean ms run.2 in
     step_facts limit start m ms A (facts limit start clean ms run.2)
     (changes limit (length ms) (now start ms) m.event m.outcome m.state A.numbers.idle run.1)
     (walked (length ms) (now start ms) limit m.event m.outcome m.state A.numbers.idle.lone run.1))
@@ -561,5 +526,4 @@ facts limit start clean (m ∷ ms) run =
 pub one_left : (start : State) (ms : List Moment) → Facts start ms → (k : ℕ) (j : Job) →
     job_of (now start ms).jobs k ≡ Some j → 1 ≤ most_left (setup_in (now start ms)) j
 one_left start ms F k j h =
-    (let l = F.within k j h in let e = length-drop j.place (actions_of (setup_in (now start ms)) j) in
-    omega (arith, l, e))
+    (omega (arith, F.within k j h, length-drop j.place (actions_of (setup_in (now start ms)) j)))

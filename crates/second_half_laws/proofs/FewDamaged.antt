@@ -8,14 +8,13 @@ use Rattle.second_half_laws.proofs.InRuns.{start_marked}
 
 none_of : (p a n : ℕ) → p < a → count_of (λ j. p == j) (range_with_len a n) ≤ 0
 none_of p a zero l = omega arith
-none_of p a (suc n) l = (let h = none_of p (a + 1) n (omega arith) in
-    rw (ne_eqb p a (λ e. omega arith)) (omega (arith, h)))
+none_of p a (suc n) l = rw (ne_eqb p a (λ e. omega arith)) (omega (arith, none_of p (a + 1) n (omega arith)))
 
 one_of : (p a n : ℕ) → count_of (λ j. p == j) (range_with_len a n) ≤ 1
 one_of p a zero = omega arith
 one_of p a (suc n) = elim (cases_Bool (p == a)) [
-  | inl t ↦ (let h = none_of p (a + 1) n (let e = eqb-true p a t in omega arith) in rw t (omega (arith, h)))
-  | inr f ↦ (let h = one_of p (a + 1) n in rw f (omega (arith, h)))
+  | inl t ↦ (rw t (omega (arith, none_of p (a + 1) n (let e = eqb-true p a t in omega arith))))
+  | inr f ↦ (rw f (omega (arith, one_of p (a + 1) n)))
 ]
 
 count_of-or : (p q : ℕ → Bool) (js : List ℕ) → count_of (λ j. p j || q j) js ≤ count_of p js + count_of q js
@@ -25,11 +24,9 @@ count_of-or p q (j ∷ js) = go (p j) (q j) (count_of-or p q js)
     go : (b c : Bool) → count_of (λ j. p j || q j) js ≤ count_of p js + count_of q js →
         cond (b || c) 1 0 + count_of (λ j. p j || q j) js
         ≤ cond b 1 0 + count_of p js + (cond c 1 0 + count_of q js)
-    go true c h = elim c as (λ d. cond (true || d) 1 0 + count_of (λ j. p j || q j) js
-        ≤ cond true 1 0 + count_of p js + (cond d 1 0 + count_of q js))
-        [ false ↦ omega (arith, h) | true ↦ omega (arith, h) ]
-    go false true h = omega (arith, h)
-    go false false h = omega (arith, h)
+    go true c h = elim c as (λ d. cond (true || d) 1 0 + count_of (λ j. p j || q j) js ≤ cond true 1 0 +
+        count_of p js + (cond d 1 0 + count_of q js)) [ false ↦ omega (arith, h) | true ↦ omega (arith, h) ]
+    go false _ h = omega (arith, h)
 
 -- a number is in a list, as a test
 is_in : List ℕ → ℕ → Bool
@@ -45,10 +42,9 @@ in_is (p ∷ ps) j (inr h) = or_right (p == j) (is_in ps j) (in_is ps j h)
 few_in : (ps : List ℕ) (a n : ℕ) → count_of (is_in ps) (range_with_len a n) ≤ length ps
 unfolding is_in
 few_in [] a zero = omega arith
-few_in [] a (suc n) = (let h = few_in [] (a + 1) n in omega (arith, h))
+few_in [] a (suc n) = (omega (arith, few_in [] (a + 1) n))
 few_in (p ∷ ps) a n =
-    (let h = count_of-or (λ j. p == j) (is_in ps) (range_with_len a n) in
-    let one = one_of p a n in let more = few_in ps a n in omega (arith, h, one, more))
+    (omega (arith, count_of-or (λ j. p == j) (is_in ps) (range_with_len a n), one_of p a n, few_in ps a n))
 
 -- ---- calm
 
@@ -63,11 +59,10 @@ no_setup_in w h = ap setup_or_none h
 pub few_now : (w : State) (ps : List ℕ) (from : ℕ) (ms : List Moment) → AreFew ps w →
     ((j : ℕ) → is_replaced_since from j ms ≡ true → In j ps) → replaced_count w from ms ≤ (setup_in w).b
 few_now w ps from ms (inl none) among =
-    subst (λ (t : Setup). count_of (λ j. is_replaced_since from j ms) (upto t.n) ≤ t.b)
+    subst (λ t. count_of (λ j. is_replaced_since from j ms) (upto t.n) ≤ t.b)
     (sym (no_setup_in w none)) (omega arith)
-few_now w ps from ms (inr few) among =
-    (let c = count_of-within (λ j. is_replaced_since from j ms) (is_in ps) 0 (setup_in w).n
-    (λ j l h. in_is ps j (among j h)) in
+few_now w ps from ms (inr few) among = (let c = count_of-within (λ j. is_replaced_since from j ms) (is_in ps)
+    0 (setup_in w).n (λ j l h. in_is ps j (among j h)) in
     let d = few_in ps 0 (setup_in w).n in omega (arith, c, d, few))
 
 -- so it was before
@@ -78,9 +73,8 @@ few_before limit start m ms ps clean run few = go (setup_of (now start ms).recor
     go : (s : Option Setup) → setup_of (now start ms).records ≡ s → AreFew ps (now start ms)
     go None is = inl is
     go (Some s) is = (let stays = setups_stay limit start (m ∷ []) ms s clean run is in elim few [
-      | inl none ↦ absurd (let e : None ≡ Some s = sym none ∙ stays in cc)
-      | inr l ↦ inr (subst (λ (t : Setup). length ps ≤ t.b)
-          (setup_same m.state (now start ms) (stays ∙ sym is)) l)
+      | inl none ↦ absurd (cc (sym none ∙ stays))
+      | inr l ↦ inr (rw (setup_same m.state (now start ms) (stays ∙ sym is)) at l)
     ])
 
 pub few_calm : (limit : ℕ) (mark : Mark) (start : State) (ps : List ℕ) → IsStart start → (ms : List Moment) →

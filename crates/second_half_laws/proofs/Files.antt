@@ -1,5 +1,5 @@
 -- Every file in effect is among those that an audit or a repair works on.
-use Rattle.second_half_laws.proofs.Words.{true, cond, refl, sym, subst, ◌∙◌, inl, inr, nat_lt, cases_Bool, false≢true, In, some-not-none, Record, SetUp, PutStart, PutDone, Drop, AuditStart, AuditDone, RepairDone, PutDoneIn, Version, Resume, InEffect, RepairDue, File, started_as, is_same_name, is_name_before, is_start_of, file_of, files_of, with_put, with_file, without_file, file_as, setup_of, profile_in, same-eq, same-refl, Pinned, State, file_in, machine_pins, pinned_file, pin_by, pin_all, cond_true, cond_false}
+use Rattle.second_half_laws.proofs.Words.{true, cond, refl, sym, subst, ◌∙◌, inl, inr, nat_lt, cases_Bool, false≢true, In, some-not-none, Record, PutDone, Drop, PutDoneIn, InEffect, File, started_as, is_same_name, is_name_before, is_start_of, file_of, files_of, with_put, with_file, without_file, file_as, setup_of, profile_in, same-eq, same-refl, Pinned, State, file_in, machine_pins, pinned_file, pin_by, pin_all, cond_true, cond_false}
 use Rattle.std.proofs.Common.{◌≡◌, ℕ, Bool, false, List, [], ◌∷◌, Option, Some, None}
 
 -- a file that a record brings in has the name, or the one before has
@@ -12,22 +12,15 @@ named_put false name k size profile rest f h old = old h
 -- a file in effect has the name
 file_named : (rs : List Record) (name : List ℕ) (f : File) → file_of rs name ≡ Some f → f.name ≡ name
 file_named [] name f h = absurd (some-not-none None f h refl)
-file_named (SetUp s ∷ rs) name f h = file_named rs name f h
-file_named (PutStart k n ∷ rs) name f h = file_named rs name f h
 file_named (PutDone k size ∷ rs) name f h = named_put _ name k size _ _ f h (file_named rs name f)
 file_named (Drop n ∷ rs) name f h = elim (cases_Bool (is_same_name n name)) [
   | inl t ↦ absurd (some-not-none _ f h (cc))
   | inr o ↦ file_named rs name f (cc)
 ]
-file_named (AuditStart number ∷ rs) name f h = file_named rs name f h
-file_named (AuditDone number undecided counts ∷ rs) name f h = file_named rs name f h
-file_named (RepairDone number ∷ rs) name f h = file_named rs name f h
 file_named (PutDoneIn k size profile ∷ rs) name f h = named_put _ name k size _ _ f h (file_named rs name f)
-file_named (Version ∷ rs) name f h = file_named rs name f h
-file_named (Resume next audit ∷ rs) name f h = file_named rs name f h
 file_named (InEffect k size profile kept ∷ rs) name f h =
     named_put _ name k size _ _ f h (file_named rs name f)
-file_named (RepairDue number counts ∷ rs) name f h = file_named rs name f h
+file_named (_ ∷ rs) name f h = file_named rs name f h
 
 with_new : (fs : List File) (x : File) → In x (with_file fs x)
 with_new [] x = inl refl
@@ -41,8 +34,7 @@ with_old [] x g h = absurd h
 with_old (f ∷ fs) x g h = elim (cases_Bool (is_name_before f.name x.name)) [
   | inl t ↦ subst (λ l. In g l) (sym (cond_true _ _ _ t)) (elim h [
     | inl e ↦ inl e
-    | inr i ↦ inr (with_old fs x
-        g i)
+    | inr i ↦ inr (with_old fs x g i)
   ])
   | inr o ↦ subst (λ l. In g l) (sym (cond_false _ _ _ o)) (inr h)
 ]
@@ -57,8 +49,7 @@ without_old (f ∷ fs) n g h other = elim (cases_Bool (is_same_name f.name n)) [
   ])
   | inr o ↦ subst (λ l. In g l) (sym (cond_false _ _ _ o)) (elim h [
     | inl e ↦ inl e
-    | inr i ↦ inr (without_old
-        fs n g i other)
+    | inr i ↦ inr (without_old fs n g i other)
   ])
 ]
 
@@ -79,34 +70,24 @@ in_put fs (Some n) name k size profile rest f h named old = by_name (is_same_nam
         cond b (Some (file_as name k size profile)) rest ≡ Some f →
         In f (with_file (without_file fs n) (file_as n k size profile))
     by_name true t e = (let same : file_as name k size profile ≡ f = cc in
-        subst (λ (x : File). In x (with_file (without_file fs n) (file_as n k size profile)))
+        subst (λ x. In x (with_file (without_file fs n) (file_as n k size profile)))
         (cc (same-eq n name t)) (with_new (without_file fs n) (file_as n k size profile)))
     by_name false o e = with_old _ _ f (without_old fs n f (old e) (cc (named e, apart n name o)))
 
 in_files : (rs : List Record) (name : List ℕ) (f : File) → file_of rs name ≡ Some f → In f (files_of rs)
 in_files [] name f h = absurd (some-not-none None f h refl)
-in_files (SetUp s ∷ rs) name f h = in_files rs name f h
-in_files (PutStart k n ∷ rs) name f h = in_files rs name f h
-in_files (PutDone k size ∷ rs) name f h =
-    in_put (files_of rs) (started_as rs k) name k size (profile_in (setup_of rs)) (file_of rs name) f h
-    (file_named rs name f) (in_files rs name f)
+in_files (PutDone k size ∷ rs) name f h = in_put (files_of rs) (started_as rs k) name k size
+    (profile_in (setup_of rs)) (file_of rs name) f h (file_named rs name f) (in_files rs name f)
 in_files (Drop n ∷ rs) name f h = elim (cases_Bool (is_same_name n name)) [
   | inl t ↦ absurd (some-not-none (file_of (Drop n ∷ rs) name) f h (cc))
   | inr o ↦ (let old = sym (cc) ∙ h in
       without_old (files_of rs) n f (in_files rs name f old) (cc (file_named rs name f old, apart n name o)))
 ]
-in_files (AuditStart number ∷ rs) name f h = in_files rs name f h
-in_files (AuditDone number undecided counts ∷ rs) name f h = in_files rs name f h
-in_files (RepairDone number ∷ rs) name f h = in_files rs name f h
-in_files (PutDoneIn k size profile ∷ rs) name f h =
-    in_put (files_of rs) (started_as rs k) name k size profile (file_of rs name) f h
-    (file_named rs name f) (in_files rs name f)
-in_files (Version ∷ rs) name f h = in_files rs name f h
-in_files (Resume next audit ∷ rs) name f h = in_files rs name f h
-in_files (InEffect k size profile kept ∷ rs) name f h =
-    in_put (files_of rs) (Some kept) name k size profile (file_of rs name) f h
-    (file_named rs name f) (in_files rs name f)
-in_files (RepairDue number counts ∷ rs) name f h = in_files rs name f h
+in_files (PutDoneIn k size profile ∷ rs) name f h = in_put (files_of rs) (started_as rs k) name k size profile
+    (file_of rs name) f h (file_named rs name f) (in_files rs name f)
+in_files (InEffect k size profile kept ∷ rs) name f h = in_put (files_of rs) (Some kept) name k size profile
+    (file_of rs name) f h (file_named rs name f) (in_files rs name f)
+in_files (_ ∷ rs) name f h = in_files rs name f h
 
 pin_new : (p : Pinned) (ps : List Pinned) → In p (pin_by machine_pins p ps)
 pin_new p [] = inl refl
@@ -121,15 +102,14 @@ pin_old p (q ∷ qs) g h = elim (cases_Bool (nat_lt p.id q.id)) [
   | inl t ↦ subst (λ l. In g l) (sym (cond_true _ _ _ t)) (inr h)
   | inr o ↦ subst (λ l. In g l) (sym (cond_false _ _ _ o)) (elim h [
     | inl e ↦ inl e
-    | inr i ↦ inr (pin_old p qs
-        g i)
+    | inr i ↦ inr (pin_old p qs g i)
   ])
 ]
 
 in_all : (w : State) (fs : List File) (f : File) → In f fs → In (pinned_file w f) (pin_all w fs)
 in_all w [] f h = absurd h
 in_all w (g ∷ gs) f (inl e) =
-    subst (λ (x : File). In (pinned_file w f) (pin_by machine_pins (pinned_file w x) (pin_all w gs))) e
+    subst (λ x. In (pinned_file w f) (pin_by machine_pins (pinned_file w x) (pin_all w gs))) e
     (pin_new (pinned_file w f) (pin_all w gs))
 in_all w (g ∷ gs) f (inr h) = pin_old (pinned_file w g) (pin_all w gs) (pinned_file w f) (in_all w gs f h)
 

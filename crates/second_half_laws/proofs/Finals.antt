@@ -1,5 +1,5 @@
 -- What stands of the job whose append is in flight.
-use Rattle.second_half_laws.proofs.Words.{cond, refl, sym, subst, ◌∙◌, inl, inr, arith, slice_get, replicate, flat_map, upto, cases_lt, cases_Bool, challenge_of, Sums, Judges, Setup, Record, SetUp, PutStart, PutDone, AuditDone, RepairDone, PutDoneIn, Resume, InEffect, RepairDue, version_of, next_id, Kind, PutJob, GetJob, DropJob, AuditJob, RepairJob, UpgradeJob, Pinned, Given, Job, job_of, advanced, advanced_with, object_of, profiled, Action, WriteBody, Store, Fetch, Ask, Work, on_each_provider, on_each_stripe, open_actions, store_actions, repair_actions, rounds_of, ask_actions, actions_of, State, Append, IsStart, setup_in, answers_given, JudgesRound, JudgesRounds, JudgesFiles, HasSums, done_record, is_first_append, subject_drawn, taken_out, Writes, next_action, holder_of, Moment, now, cond_true, cond_false, same_value, found_none, Append_is, Changes, first_above, first_below, drawn_later, All, next_stands, setup_stays}
+use Rattle.second_half_laws.proofs.Words.{cond, refl, sym, subst, ◌∙◌, inl, inr, arith, slice_get, replicate, flat_map, upto, cases_lt, cases_Bool, challenge_of, Sums, Judges, Setup, Record, SetUp, PutStart, PutDone, AuditDone, RepairDone, PutDoneIn, Resume, InEffect, RepairDue, version_of, next_id, Kind, PutJob, GetJob, AuditJob, RepairJob, Pinned, Given, Job, job_of, advanced, advanced_with, object_of, profiled, Action, WriteBody, Store, Fetch, Ask, Work, on_each_provider, on_each_stripe, open_actions, store_actions, repair_actions, rounds_of, ask_actions, actions_of, State, Append, IsStart, setup_in, answers_given, JudgesRound, JudgesRounds, JudgesFiles, HasSums, done_record, is_first_append, subject_drawn, taken_out, Writes, next_action, holder_of, Moment, now, cond_true, cond_false, same_value, found_none, Append_is, Changes, first_above, first_below, drawn_later, All, next_stands, setup_stays}
 use Rattle.std.proofs.Common.{◌≡◌, ℕ, ◌+◌, ◌≤◌, ◌==◌, Bool, false, List, [], ◌∷◌, ◌++◌, length, Some, None}
 use Rattle.machine_defs.proofs.PutProfiles.{setup_profile}
 use Rattle.machine_defs.proofs.PutProfiles as own
@@ -18,8 +18,7 @@ RoundIs s subject given f round old new = Judges (object_of (profiled s f.profil
 round_same : (s : Setup) (x j : Job) (f : Pinned) (round : ℕ) (old new : Sums) → x.subject ≡ j.subject →
     j.given ≡ x.given → JudgesRound s x f round old new → JudgesRound s j f round old new
 round_same s x j f round old new subject given h =
-    subst (λ n. RoundIs s n j.given f round old new) subject
-    (subst (λ g. RoundIs s x.subject g f round old new) (sym given) h)
+    rw subject at (subst (λ g. RoundIs s x.subject g f round old new) (sym given) h)
 
 rounds_same : (s : Setup) (x j : Job) (f : Pinned) (rounds : List ℕ) (old new : Sums) →
     x.subject ≡ j.subject → j.given ≡ x.given → JudgesRounds s x f rounds old new →
@@ -43,9 +42,8 @@ files_same s x j (f ∷ fs) old new subject given h = (
 -- the sums of an audit hang on its files, its number and what it was given alone
 pub sums_same : (s : Setup) (x j : Job) (sums : Sums) → x.pinned ≡ j.pinned → x.subject ≡ j.subject →
     j.given ≡ x.given → HasSums s x sums → HasSums s j sums
-sums_same s x j sums pinned subject given h = subst
-    (λ fs. JudgesFiles s j fs (record { counts = replicate s.n 0; undecided = 0 }) sums) pinned
-    (files_same s x j x.pinned (record { counts = replicate s.n 0; undecided = 0 }) sums subject given h)
+sums_same s x j sums pinned subject given h = rw pinned at (files_same s x j x.pinned
+    (record { counts = replicate s.n 0; undecided = 0 }) sums subject given h)
 
 -- ---- the last record of a job
 
@@ -88,9 +86,8 @@ module _ (t : Setup) (x : Job) (version id size profile : ℕ) (kind : Kind)
   -- a job whose record ends a put had made all of that put's stores, whatever the version
   pub final_done : Final t x (done_record version id size profile) kind → FinalPut t x id size profile kind
   final_done h = elim (cases_Bool (version == 2)) [
-    | inl e ↦ subst (λ r. Final t x r kind) (cond_true _ _ _ e) h
-    | inr f ↦ subst (λ p. FinalPut t x id size p kind) (sym (own f)) (subst (λ r. Final t x r kind)
-        (cond_false _ _ _ f) h)
+    | inl e ↦ (rw (cond_true _ _ _ e) at h)
+    | inr f ↦ (rw (← (own f)) at (subst (λ r. Final t x r kind) (cond_false _ _ _ f) h))
   ]
 
 -- a job that is the same in all that its last record hangs on
@@ -107,8 +104,7 @@ stores_by t p n bytes =
     on_each_stripe (profiled t p) (length bytes) (λ stripe. on_each_provider t (λ j. Store j n stripe))
 
 abbrev asks_by : Setup → List Pinned → List Action
-asks_by t pinned = flat_map
-    (λ (f : Pinned). flat_map (λ round. on_each_provider t (λ j. Ask j f.id round))
+asks_by t pinned = flat_map (λ (f : Pinned). flat_map (λ round. on_each_provider t (λ j. Ask j f.id round))
     (rounds_of (profiled t f.profile) (length f.bytes))) pinned
 
 abbrev rewrites_by : Setup → (ℕ → Bool) → ℕ → ℕ → List Action
@@ -116,8 +112,7 @@ rewrites_by t flagged object stripe =
     flat_map (λ j. cond (flagged j) (Store j object stripe ∷ []) []) (upto t.n)
 
 abbrev repairs_by : Setup → List Pinned → (ℕ → Bool) → List Action
-repairs_by t pinned flagged =
-    flat_map (λ (f : Pinned). on_each_stripe (profiled t f.profile) (length f.bytes)
+repairs_by t pinned flagged = flat_map (λ (f : Pinned). on_each_stripe (profiled t f.profile) (length f.bytes)
     (λ stripe. open_actions t f.id stripe ++ rewrites_by t flagged f.id stripe)) pinned
 
 final_put : (t : Setup) (x y : Job) (id size profile : ℕ) (kind : Kind) → Alike t x y →
@@ -166,7 +161,7 @@ final_alike t x y entry kind is a h = tt
 
 final_is : (t : Setup) (x y j : Job) (entry : Record) → j ≡ y → y.kind ≡ x.kind → Alike t x y →
     Final t x entry x.kind → Final t j entry j.kind
-final_is t x y j entry is kind a h = subst (λ (z : Job). Final t z entry z.kind) (sym is)
+final_is t x y j entry is kind a h = subst (λ z. Final t z entry z.kind) (sym is)
     (subst (λ k. Final t y entry k) (sym kind) (final_alike t x y entry x.kind refl a h))
 
 -- a gift is of an action that is not mute
@@ -187,9 +182,8 @@ audit_is_mute t x action n u c kind at h is = absurd h
 final_on : (old : State) (x : Job) (action : Action) (new : State) (j : Job) (b : Append) →
     old.append ≡ Some b → holder_of old.append action ≡ None → next_action old x ≡ Some action →
     Passed old x action new j → Final (setup_in old) x b.entry x.kind → Final (setup_in old) j b.entry j.kind
-final_on old x action new j b flight free next_is (Passed.silent quiet is rec) h =
-    final_is (setup_in old) x (advanced x) j b.entry is refl
-    (record {
+final_on old x action new j b flight free next_is (Passed.silent quiet is rec) h = final_is (setup_in old) x
+    (advanced x) j b.entry is refl (record {
       subject = refl;
       profile = refl;
       pinned = refl;
@@ -197,9 +191,8 @@ final_on old x action new j b flight free next_is (Passed.silent quiet is rec) h
       place = omega arith;
       given = λ n u c kind f k. refl;
     }) h
-final_on old x action new j b flight free next_is (Passed.finished a act at mine is rec) h =
-    final_is (setup_in old) x (record (advanced x) { older = taken_out old x x.kind }) j b.entry is refl
-    (record {
+final_on old x action new j b flight free next_is (Passed.finished a act at mine is rec) h = final_is
+    (setup_in old) x (record (advanced x) { older = taken_out old x x.kind }) j b.entry is refl (record {
       subject = refl;
       profile = refl;
       pinned = refl;
@@ -247,7 +240,6 @@ writes_final w x (PutJob name bytes) entry plain is next_is h = elim (cases_lt x
       )))
 ]
 writes_final w x (GetJob name) entry plain is next_is h = absurd h
-writes_final w x (DropJob name) entry plain is next_is h = cc
 writes_final w x AuditJob entry plain is next_is h = elim (cases_lt x.place 4) [
   | inl l ↦ subst (λ r. Final (setup_in w) (drawn w x) r AuditJob)
       (sym (let g = rw (first_below x l) at h in g)) tt
@@ -262,7 +254,7 @@ writes_final w x AuditJob entry plain is next_is h = elim (cases_lt x.place 4) [
 writes_final w x RepairJob entry plain is next_is h =
     (let late = move_behind (setup_in w) x x.place WriteBody is (next_stands w x WriteBody next_is (λ e. cc))
     (λ z. z) in subst (λ r. Final (setup_in w) (drawn w x) r RepairJob) (sym h) (cc, omega (arith, late)))
-writes_final w x UpgradeJob entry plain is next_is h = cc
+writes_final w x _ entry plain is next_is h = cc
 
 -- ---- at each moment of a run
 
@@ -275,17 +267,15 @@ pub flight_step : (limit : ℕ) (start : State) (m : Moment) (ms : List Moment) 
     own.Facts start ms → made.Facts start ms → Flights start ms →
     (X : Changes limit (length ms) (now start ms) m.event m.outcome m.state) →
     Walked (length ms) (now start ms) m.event m.outcome m.state → Flights start (m ∷ ms)
-flight_step limit start m ms A V M F X W a j h hj =
-    subst (λ t. Final t j a.entry j.kind) (sym (setup_stays limit start m ms A.numbers A.pins X a.job j hj))
-    (elim (X.append a h) [
+flight_step limit start m ms A V M F X W a j h hj = subst (λ t. Final t j a.entry j.kind)
+    (sym (setup_stays limit start m ms A.numbers A.pins X a.job j hj)) (elim (X.append a h) [
       | Append_is.kept b flight job_is entry rec ↦ subst (λ r. Final (setup_in (now start ms)) j r j.kind)
           (sym entry) (elim (W.job a.job j hj) [
             | Went.kept r apart ↦ F b j flight (cc)
             | Went.begun kind wish is k_is rec2 ↦
                 absurd (let l = A.numbers.holder b flight in omega (arith, l, k_is, job_is))
-            | Went.went x action g ↦
-                final_on (now start ms) x action m.state j b flight g.unheld g.next g.passed
-                (F b x flight (cc))
+            | Went.went x action g ↦ final_on (now start ms) x action m.state j b flight g.unheld g.next
+                g.passed (F b x flight (cc))
           ])
       | Append_is.drew x runs next_is mine writes found rec ↦ (let is = same_value _ j _ (cc) found in
           subst (λ (z : Job). Final (setup_in (now start ms)) z a.entry z.kind) (sym is)

@@ -79,12 +79,10 @@ module _ (moment : ℕ) (old new : State) (lone : IsLone old) (scrub : Scrub)
       HasEnded old new scrub
   scrub_ends limit (Init s) h = inits s old.is_open h
   scrub_ends limit (Step number) h = steps number old.is_open h
-  scrub_ends limit (Alter j object stripe place symbol) h =
-      replaces_if (nat_lt j old.handed) j (λ held. HasPlace (held object stripe) place)
-      (with_symbol object stripe place symbol) h
-  scrub_ends limit (Lose j object stripe) h =
-      replaces_if (nat_lt j old.handed) j (λ held. IsSome (held object stripe))
-      (without_block object stripe) h
+  scrub_ends limit (Alter j object stripe place symbol) h = replaces_if (nat_lt j old.handed) j
+      (λ held. HasPlace (held object stripe) place) (with_symbol object stripe place symbol) h
+  scrub_ends limit (Lose j object stripe) h = replaces_if (nat_lt j old.handed) j
+      (λ held. IsSome (held object stripe)) (without_block object stripe) h
   scrub_ends limit Names h = lists old.is_open h
   scrub_ends limit e h = absurd h
 
@@ -154,7 +152,7 @@ module _ (limit : ℕ) (start : State) (m : Moment) (ms : List Moment) (clean : 
             scrub d at (cc));
       };
       clear = λ q f i s h l k bad. clear q f i s (stood q f h) (within i l) (below f s k)
-          (bad_same here f.profile f.id i s (subst (λ (w : State). IsBad w f.profile f.id i s) H.is bad));
+          (bad_same here f.profile f.id i s (rw H.is at bad));
     },
     λ q f i s block h l k unreplaced told. elim (swept q f i s block (stood q f h) (within i l) (below f s k)
         (cc)) [
@@ -170,17 +168,16 @@ module _ (limit : ℕ) (start : State) (m : Moment) (ms : List Moment) (clean : 
       stood q f h = cc
 
       within : (i : ℕ) → i < (setup_in m.state).n → i < (setup_in here).n
-      within i l = below_same here i (subst (λ (w : State). i < (setup_in w).n) H.is l)
+      within i l = below_same here i (rw H.is at l)
 
       below : (f : File) (s : ℕ) → s < stripes (file_object m.state f) (length (m.state.bytes f.id)) →
           s < pinned_stripes (setup_in here) (pinned_file here f)
-      below f s k = stripe_same here f s (subst (λ (w : State). s < stripes (file_object w f)
-          (length (w.bytes f.id))) H.is k)
+      below f s k = stripe_same here f s (rw H.is at k)
 
       none_left : (x : Action) → (x ≡ End → ⊥) → In x scrub.todo → ⊥
-      none_left x other h = elim (subst (In x) H.todo h) [
+      none_left x other h = elim (rw H.todo at h) [
         | inl e ↦ other e
-        | inr r ↦ (let none : H.rest ≡ [] = subst IsEnded H.todo C.ended in subst (In x) none r)
+        | inr r ↦ (subst (In x) (subst IsEnded H.todo C.ended) r)
       ]
 
       -- nothing is left to do: each block is the provider's own column, or its provider was replaced
@@ -191,10 +188,8 @@ module _ (limit : ℕ) (start : State) (m : Moment) (ms : List Moment) (clean : 
       swept q f i s block h l k told = elim (C.left (pinned_file here f) i s block (C.all q f h) l k told) [
         | inl own ↦ inl own
         | inr (inl r) ↦ inr r
-        | inr (inr (inl w)) ↦
-            absurd (none_left (Work f.id s) (λ e. (let z : Work f.id s ≡ End = e in cc)) w)
-        | inr (inr (inr st)) ↦ absurd
-            (none_left (Store i f.id s) (λ e. (let z : Store i f.id s ≡ End = e in cc)) st)
+        | inr (inr (inl w)) ↦ absurd (none_left (Work f.id s) (λ e. (cc e)) w)
+        | inr (inr (inr st)) ↦ absurd (none_left (Store i f.id s) (λ e. (cc e)) st)
       ]
 
       clear : (q : List ℕ) (f : File) (i s : ℕ) → file_in here q ≡ Some f → i < (setup_in here).n →
@@ -207,9 +202,8 @@ module _ (limit : ℕ) (start : State) (m : Moment) (ms : List Moment) (clean : 
 
   by_alone : (x : Option Alone) → here.alone ≡ x → (a : ℕ) (xs ys : List ℕ) →
       m.outcome ≡ Ended (answer.Scrubbed a xs ys) → Since start (m ∷ ms) (scrub_begun x (scrubbed start ms))
-  by_alone (Some (Scrubbing scrub)) at a xs ys is =
-      finished scrub at (scrub_ends (length ms) here m.state lone scrub at a xs ys limit m.event
-      (subst (λ r. Happens limit (length ms) here m.event r m.state) is run.1))
+  by_alone (Some (Scrubbing scrub)) at a xs ys is = finished scrub at
+      (scrub_ends (length ms) here m.state lone scrub at a xs ys limit m.event (rw is at run.1))
   by_alone x at a xs ys is = stays
 
   by_outcome : (r : Outcome) → m.outcome ≡ r → Since start (m ∷ ms) (mark_scrubbed here.alone r
@@ -238,9 +232,8 @@ sweep limit start clean tell [] run calm scrubs = record {
   swept = λ scrub h. absurd (some-not-none _ _ h clean.none_alone);
   owns = λ q f i s block h l k unreplaced told. absurd (no_first_file start.records q f clean.records h);
 }
-sweep limit start clean tell (m ∷ ms) run calm scrubs =
-    sweep_step limit start m ms clean tell run calm.1 scrubs.1
-    (sweep limit start clean tell ms run.2 calm.1 scrubs.1)
+sweep limit start clean tell (m ∷ ms) run calm scrubs = sweep_step limit start m ms clean tell run calm.1
+    scrubs.1 (sweep limit start clean tell ms run.2 calm.1 scrubs.1)
 
 -- a run that is calm counted from finished scrubs is calm by a mark: the begin of the last of these
 pub scrub_marked : (limit : ℕ) (start : State) (ms : List Moment) → IsStart start → AllTell start →
@@ -257,9 +250,8 @@ scrub_marked limit start ms clean tell run h =
 -- the second half holds of each run that is calm counted from finished scrubs
 pub half_by_scrubs : (limit : ℕ) (start : State) (ms : List Moment) → IsStart start → AllTell start →
     IsRun limit start ms → IsScrubCalm start ms → SecondHalf start ms
-half_by_scrubs limit start ms clean tell run h = half_by_mark limit
-    (scrubbed start) start clean tell ms run h.jobs
-    (sweep limit start clean tell ms run h.jobs h.scrubs).marks
+half_by_scrubs limit start ms clean tell run h = half_by_mark limit (scrubbed start) start clean tell ms run
+    h.jobs (sweep limit start clean tell ms run h.jobs h.scrubs).marks
 
 -- own columns stay so at each later moment
 owns_later : (limit : ℕ) (start : State) → IsStart start → AllTell start → (before later : List Moment) →
@@ -271,11 +263,10 @@ owns_later limit start clean tell before [] run calm scrubs =
     (let S = sweep limit start clean tell before run calm scrubs in
     ((mark_now (scrubbed start) start before S.marks).before, S.owns))
 owns_later limit start clean tell before (m ∷ later) run calm scrubs =
-    (let P = owns_later limit start clean tell before later run.2 calm.1 scrubs.1 in
-    let h : IsScrubCalm start (later ++ before) = record { jobs = calm.1; scrubs = scrubs.1 } in (
+    (let P = owns_later limit start clean tell before later run.2 calm.1 scrubs.1 in (
       before_stays limit start m _ _ clean run P.0,
-      owns_stay limit _ start m _ (scrub_marked limit start (later ++ before) clean tell run.2 h) scrubs.1 run
-          (scrubbed start before) P.0 P.1,
+      owns_stay limit _ start m _ (scrub_marked limit start (later ++ before) clean tell run.2
+          (record { jobs = calm.1; scrubs = scrubs.1 })) scrubs.1 run (scrubbed start before) P.0 P.1,
     ))
 
 -- each provider that was not replaced since the begin of a finished scrub holds its own columns
@@ -290,10 +281,8 @@ exact_by_scrubs limit start later before clean tell run h q f i s in_effect l k 
         ≡ Some (Some (columns (file_object (now start (later ++ before)) f)
         ((now start (later ++ before)).bytes f.id) i s))
     by_told None is some = absurd (false≢true some)
-    by_told (Some held) is some =
-        (let told : told_block (now start (later ++ before)) i f.id s ≡ Some (held f.id s) = cc in
-        cc ((owns_later limit start clean tell before later run h.jobs h.scrubs).1 q f i s (held f.id s)
-        in_effect l k unreplaced told))
+    by_told (Some held) is some = (cc ((owns_later limit start clean tell before later run h.jobs h.scrubs).1
+        q f i s (held f.id s) in_effect l k unreplaced cc))
 
 -- ---- where no scrub begins
 

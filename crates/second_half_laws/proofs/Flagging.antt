@@ -1,17 +1,17 @@
 -- Where the one audit of a run flags who was damaged, it missed nobody.
-use Rattle.second_half_laws.proofs.Words.{◌⊎◌, true, refl, ap, sym, subst, ◌∙◌, inl, inr, is_some, nat_le, cases_Bool, false≢true, In, some-not-none, Sums, is_flagged, Record, Setup, SetUp, AuditDone, File, setup_of, Kind, AuditJob, Job, job_of, WriteGate, End, Audited, Begin, Step, Begun, Ended, HasSums, State, Append, Doubt, IsStart, setup_in, file_in, Ends, next_action, Moment, now, first_moments, came, IsRun, Misses, MissesNone, NoneMissed, is_wrong_now, AllTell, NoneBegan, NoneBeganFor, NoneRuns, DamagesOnly, found_none, changes, all, event_end, next_stands, audits, setup_same, among_all, run_back, none_ran, none_on, none_left, only_its, ended_of_kind, valid_shape, shape_in}
+use Rattle.second_half_laws.proofs.Words.{◌⊎◌, true, refl, ap, sym, subst, ◌∙◌, inl, inr, is_some, nat_le, cases_Bool, false≢true, In, some-not-none, is_flagged, Record, Setup, SetUp, AuditDone, File, setup_of, Kind, AuditJob, Job, job_of, WriteGate, End, Audited, Begin, Step, Begun, Ended, HasSums, State, Append, Doubt, IsStart, setup_in, file_in, Ends, next_action, Moment, now, first_moments, came, IsRun, Misses, MissesNone, NoneMissed, is_wrong_now, AllTell, NoneBegan, NoneBeganFor, NoneRuns, DamagesOnly, found_none, event_end, next_stands, audits, setup_same, among_all, run_back, none_ran, none_on, none_left, only_its, ended_of_kind, valid_shape, shape_in}
 use Rattle.std.proofs.Common.{◌≡◌, ℕ, ◌≤◌, ◌<◌, List, [], ◌∷◌, ◌++◌, length, Option, Some, None, append_assoc}
 use Rattle.machine_defs.proofs.Survive.{came_none, came_one}
 use Rattle.machine_defs.proofs.Numbers as num
 use Rattle.run_laws.proofs.InEffect as eff
 use Rattle.run_laws.proofs.Sums.{sums-one}
 use Rattle.second_half_laws.specs.Flagging.{IsAudit, FindsAll}
-use Rattle.second_half_laws.proofs.Turns.{Doubt_now, turns}
+use Rattle.second_half_laws.proofs.Turns.{Doubt_now}
 use Rattle.second_half_laws.proofs.Places.{audit_late}
 use Rattle.second_half_laws.proofs.Finals.{sums_same}
 use Rattle.second_half_laws.proofs.Wholes.{audit_running}
 use Rattle.second_half_laws.proofs.EveryRun as ev
-use Rattle.second_half_laws.proofs.EveryRun.{always}
+use Rattle.second_half_laws.proofs.EveryRun.{always, around}
 use Rattle.second_half_laws.proofs.InRuns.{in_run, clears_all}
 use Rattle.second_half_laws.proofs.Doubts.{setups_stay}
 use Rattle.second_half_laws.proofs.FewDamaged.{few_marked}
@@ -58,19 +58,16 @@ came_doubt : (limit : ℕ) (start : State) (m : Moment) (ms : List Moment) → I
     IsRun limit start (m ∷ ms) → (n u : ℕ) (c : List ℕ) →
     came (now start ms) m.state ≡ Some (AuditDone n u c) →
     (d : Doubt) × ((now start ms).doubt ≡ Some d) × (d.entry ≡ AuditDone n u c)
-came_doubt limit start m ms clean run n u c is = (let A = all limit start clean ms run.2 in
-    elim (ev.effect limit start m ms A (num.facts audits limit start clean ms run.2)
-    (eff.facts limit start ms clean run.2) (always limit start clean ms run.2)
-    (changes limit (length ms) (now start ms) m.event m.outcome m.state A.numbers.idle run.1)
-    (turns (now start ms) limit (length ms) m.event m.outcome m.state run.1)) [
+came_doubt limit start m ms clean run n u c is = (
+    elim (ev.effect (around limit start m ms clean run)) [
       | ev.Effect_is.nothing rec ↦ absurd (came_none (now start ms) m.state (AuditDone n u c) is rec)
       | ev.Effect_is.entered d at rec ↦ (
         d,
         at,
         came_one (now start ms) m.state (AuditDone n u c) d.entry (now start ms).records is rec,
       )
-      | ev.Effect_is.set_up s rs rec none more ↦ absurd (let e : SetUp s ≡ AuditDone n u c =
-          came_one (now start ms) m.state (AuditDone n u c) (SetUp s) rs is rec in cc)
+      | ev.Effect_is.set_up s rs rec none more ↦ absurd (cc (came_one (now start ms) m.state (AuditDone n u c)
+          (SetUp s) rs is rec))
     ])
 
 -- the audit whose last record comes into doubt by an event
@@ -90,7 +87,7 @@ module _ (limit : ℕ) (start : State) (clean : IsStart start) (tolerance : ℕ)
       ((n u : ℕ) (c : List ℕ) → Gates start ms n u c → Flags tolerance ps c) →
       FlagsEver tolerance ps start (m ∷ ms)
   step m ms run old gates = (
-    λ d n u c h e. by_turn d n u c e ((turns (now start ms) limit (length ms) m.event m.outcome m.state run.1).doubt d h),
+    λ d n u c h e. by_turn d n u c e ((around limit start m ms clean run).turned.doubt d h),
     old,
   )
     where
@@ -98,13 +95,7 @@ module _ (limit : ℕ) (start : State) (clean : IsStart start) (tolerance : ℕ)
           Doubt_now (now start ms) m.state d → Flags tolerance ps c
       by_turn d n u c e (Doubt_now.kept was rec) = flags_now tolerance ps start ms old d n u c was e
       by_turn d n u c e (Doubt_now.gated job a runs next_is flight mine entry_is maker rec on) =
-          (let A = all limit start clean ms run.2 in
-          let g = ev.audit_gated limit start m ms A (num.facts audits limit start clean ms run.2)
-          (eff.facts limit start ms clean run.2) (always limit start clean ms run.2)
-          (changes limit (length ms) (now start ms) m.event m.outcome m.state A.numbers.idle run.1)
-          (turns (now start ms) limit (length ms) m.event m.outcome m.state run.1) job a n u c runs flight mine
-          (sym entry_is ∙ e) in
-          gates n u c (record {
+          (gates n u c (record {
             job = job;
             append = a;
             runs = runs;
@@ -112,10 +103,10 @@ module _ (limit : ℕ) (start : State) (clean : IsStart start) (tolerance : ℕ)
             flies = flight;
             mine = mine;
             entry = sym entry_is ∙ e;
-            kind = g.kind;
+            kind = (ev.audit_gated (around limit start m ms clean run) job a n u c runs flight mine
+                (sym entry_is ∙ e)).kind;
           }))
-      by_turn d n u c e (Doubt_now.set_up t entry_is bare none closed) =
-          absurd (let z : SetUp t ≡ AuditDone n u c = sym entry_is ∙ e in cc)
+      by_turn d n u c e (Doubt_now.set_up t entry_is bare none closed) = absurd (cc (sym entry_is ∙ e))
 
   -- while no audit runs none comes into doubt
   quiet : (m : Moment) (ms : List Moment) → IsRun limit start (m ∷ ms) → NoneRuns IsAudit (now start ms) →
@@ -192,7 +183,7 @@ module _ (limit : ℕ) (start : State) (clean : IsStart start) (tolerance : ℕ)
         x_end.1).1 in let one = sums-one s x.0 (shape_in (now start ms) (λ t e. valid_shape t (I.setup t e))
         (ap is_some up.1)) (record { counts = counts; undecided = undecided })
         (record { counts = c; undecided = u }) its mine in
-        subst (Flags tolerance ps) (ap (λ (y : Sums). y.counts) one) flags)
+        subst (Flags tolerance ps) (ap (λ y. y.counts) one) flags)
       where
         number_is : {i : ℕ} → Begun i ≡ Begun k → i ≡ k
         number_is e = cc
@@ -228,10 +219,7 @@ first_split : (k : ℕ) (ms : List Moment) → (later : List Moment) × (ms ≡ 
 first_split k [] = ([], refl)
 first_split k (m ∷ ms) = elim (cases_Bool (nat_le (length (m ∷ ms)) k)) [
   | inl t ↦ ([], cc)
-  | inr f ↦ (let p = first_split k ms in (
-    m ∷ p.0,
-    cc,
-  ))
+  | inr f ↦ (let p = first_split k ms in (m ∷ p.0, cc))
 ]
 
 damages_back : (ps : List ℕ) (later ms : List Moment) → DamagesOnly ps (later ++ ms) → DamagesOnly ps ms
@@ -252,9 +240,8 @@ module _ (limit : ℕ) (start : State) (clean : IsStart start) (tell : AllTell s
       go : (o : Option Setup) → setup_of (now start ms).records ≡ o → Fits tolerance ps (now start ms)
       go None is = inl is
       go (Some s) is = (let stays = setups_stay limit start later ms s clean run is in elim fits [
-        | inl none ↦ absurd (let e : None ≡ Some s = sym none ∙ stays in cc)
-        | inr f ↦ inr (subst (λ (t : Setup). (length ps ≤ t.b) × (tolerance ≡ t.tolerance))
-            (setup_same (now start (later ++ ms)) (now start ms) (stays ∙ sym is)) f)
+        | inl none ↦ absurd (cc (sym none ∙ stays))
+        | inr f ↦ inr (rw (setup_same (now start (later ++ ms)) (now start ms) (stays ∙ sym is)) at f)
       ])
 
   -- who was wrong for a file at an earlier moment is among those that were damaged
@@ -268,11 +255,11 @@ module _ (limit : ℕ) (start : State) (clean : IsStart start) (tell : AllTell s
       let up = up_some _ ((eff.facts limit start hs clean run_hs).files name file in_effect).up in
       let setup = setup_same (now start (later ++ hs)) (now start hs) (setups_stay limit start later hs up.0
       clean run up.1 ∙ sym up.1) in elim (fits_back later hs run fits) [
-        | inl none ↦ absurd (let e : None ≡ Some up.0 = sym none ∙ up.1 in cc)
-        | inr f ↦ (let h = few_marked limit start hs ps clean tell run_hs only_hs f.0 in (
-          among_all ps hs 0 j only_hs
-              (clears_all start hs 0 (in_run limit (λ moments. 0) start hs h).moment.clear name file j in_effect
-              (subst (λ (t : Setup). j < t.n) setup l) wrong),
+        | inl none ↦ absurd (cc (sym none ∙ up.1))
+        | inr f ↦ ((
+          among_all ps hs 0 j only_hs (clears_all start hs 0 (in_run limit (λ moments. 0) start hs
+              (few_marked limit start hs ps clean tell run_hs only_hs f.0)).moment.clear name file j in_effect
+              (rw setup at l) wrong),
           cc,
         ))
       ])
@@ -281,9 +268,9 @@ module _ (limit : ℕ) (start : State) (clean : IsStart start) (tell : AllTell s
       Fits tolerance ps (now start ms) → (counts : List ℕ) → Flags tolerance ps counts → (begun j : ℕ) →
       Misses start ms counts begun j → ⊥
   missed_none ms run only fits counts flags begun j miss = (let p = first_split begun ms in
-      let w = wrong_among p.0 (first_moments begun ms) (subst (IsRun limit start) p.1 run)
-      (subst (DamagesOnly ps) p.1 only) (subst (λ hs. Fits tolerance ps (now start hs)) p.1 fits) miss.name
-      miss.file j miss.in_effect (subst (λ hs. j < (setup_in (now start hs)).n) p.1 miss.provider) miss.wrong
+      let w = wrong_among p.0 (first_moments begun ms) (rw p.1 at run)
+      (rw p.1 at only) (rw p.1 at fits) miss.name
+      miss.file j miss.in_effect (rw p.1 at miss.provider) miss.wrong
       in let tolerance_is : tolerance ≡ (setup_in (now start ms)).tolerance = cc in
       false≢true (cc (flags j w.0)))
 
@@ -293,16 +280,14 @@ module _ (limit : ℕ) (start : State) (clean : IsStart start) (tell : AllTell s
   misses m ms run only fits flags = go _ refl
     where
       go : (r : Option Record) → came (now start ms) m.state ≡ r → MissesNone start ms m.state r
-      go None is = tt
       go (Some (AuditDone n u c)) is = λ j miss. (let d = came_doubt limit start m ms clean run n u c is in
           missed_none ms run.2 only fits c (flags d.0 n u c d.1 d.2) (m.state.audits n) j miss)
-      go (Some r) is = tt
+      go _ is = tt
 
   none_missed : (ms : List Moment) → IsRun limit start ms → DamagesOnly ps ms →
       Fits tolerance ps (now start ms) → FlagsEver tolerance ps start ms → NoneMissed start ms
   none_missed [] run only fits flags = tt
-  none_missed (m ∷ ms) run only fits flags =
-      (let old = fits_back (m ∷ []) ms run fits in
+  none_missed (m ∷ ms) run only fits flags = (let old = fits_back (m ∷ []) ms run fits in
       (misses m ms run only.1 old (flags_now tolerance ps start ms flags.1), none_missed ms run.2 only.1 old flags.1))
 
 -- where the one audit flags who was damaged, nobody was missed
@@ -311,14 +296,13 @@ pub flagging_misses_none : (limit : ℕ) (start : State) (ms : List Moment) (ps 
     FindsAll (setup_in (now start ms)).tolerance ps ms → NoneMissed start ms
 flagging_misses_none limit start ms ps clean tell run only few f =
     none_missed limit start clean tell (setup_in (now start ms)).tolerance ps ms run only (inr (few, refl))
-    (subst (FlagsEver (setup_in (now start ms)).tolerance ps start) (sym f.split)
-    (after limit start clean (setup_in (now start ms)).tolerance ps f.end f.begin f.auditing f.older f.audit
+    (rw (← f.split) at (after limit start clean (setup_in (now start ms)).tolerance ps f.end f.begin
+    f.auditing f.older f.audit
     f.number f.undecided f.counts run_end f.begin_event f.begun f.none_numbered f.end_event f.ended f.none_before
     f.none_beside f.flags f.later (subst (IsRun limit start) f.split run) f.none_later))
   where
     run_end : IsRun limit start (f.end ∷ (f.auditing ++ f.begin ∷ f.older))
-    run_end = run_back limit start f.later (f.end ∷ (f.auditing ++ f.begin ∷ f.older))
-        (subst (IsRun limit start) f.split run)
+    run_end = run_back limit start f.later (f.end ∷ (f.auditing ++ f.begin ∷ f.older)) (rw f.split at run)
 
 -- where no audit began, nobody was missed
 pub unaudited_misses_none : (limit : ℕ) (start : State) (ms : List Moment) → IsStart start →
@@ -330,9 +314,8 @@ unaudited_misses_none limit start (m ∷ ms) clean run none = (
 )
   where
     go : (r : Option Record) → came (now start ms) m.state ≡ r → MissesNone start ms m.state r
-    go None is = tt
     go (Some (AuditDone n u c)) is = λ j miss. (let d = came_doubt limit start m ms clean run n u c is in
-        let flags = flags_now (setup_in (now start ms)).tolerance (j ∷ []) start ms (before limit start clean
-        (setup_in (now start ms)).tolerance (j ∷ []) ms run.2 none.1) in
-        false≢true (cc (flags d.0 n u c d.1 d.2 j (inl refl))))
-    go (Some r) is = tt
+        false≢true (cc ((flags_now (setup_in (now start ms)).tolerance (j ∷ []) start ms
+        (before limit start clean
+        (setup_in (now start ms)).tolerance (j ∷ []) ms run.2 none.1)) d.0 n u c d.1 d.2 j (inl refl))))
+    go _ is = tt

@@ -1,5 +1,5 @@
 -- How gets end, and that few wrong blocks leave a get its file.
-use Rattle.second_half_laws.proofs.Words.{true, refl, ap, sym, subst, ◌∙◌, arith, slice_get, Each, each_get, each_append, each_map, each_flat, flat_map-range_same, IsShape, upto, Object, stripes, symbols_in, bytes_of_symbols, row_polynomial, is_wrong_block, GivesSymbols, LosesRow, OpensFile, block_at, count_of, count_of-within, profile-room, row-right, symbols-right, Setup, File, Kind, GetJob, Pinned, Given, Job, job_of, object_of, profiled, pinned_stripes, Action, Fetch, Work, End, on_each_provider, on_each_stripe, open_actions, read_actions, Answer, Event, Step, Outcome, Ended, State, Alone, IsStart, setup_in, object_in, file_object, pinned_object, file_in, pinned_file, block_given, blocks_given, next_action, Ends, Acts, ActsOrWaits, StepsOn, StepsJob, StepsOne, StepsOpen, Steps, Happens, Moment, now, first_moments, IsRun, heard_by, given_to, found_none, IsLone, Changes, changes, next_is_by, Pins_is, pins_is, setup_same, setup_kept, All, all, first_more, first_all, HasFile, own_profile, got_is_opened, heard_blocks, get_file, block_at-given, bytes_back, valid_setup, valid_shape, held_file, first_run, shape_in, IsFewWrong}
+use Rattle.second_half_laws.proofs.Words.{true, refl, ap, sym, subst, ◌∙◌, arith, slice_get, Each, each_get, each_append, each_map, each_flat, flat_map-range_same, IsShape, upto, Object, stripes, symbols_in, bytes_of_symbols, row_polynomial, is_wrong_block, GivesSymbols, LosesRow, OpensFile, block_at, count_of, count_of-within, profile-room, row-right, symbols-right, Setup, File, Kind, GetJob, Pinned, Given, Job, job_of, profiled, pinned_stripes, Action, Fetch, Work, End, on_each_provider, on_each_stripe, open_actions, read_actions, Answer, Event, Step, Outcome, Ended, State, Alone, IsStart, setup_in, object_in, file_object, pinned_object, file_in, pinned_file, block_given, blocks_given, next_action, Ends, Acts, ActsOrWaits, StepsOn, StepsJob, StepsOne, StepsOpen, Steps, Happens, Moment, now, first_moments, IsRun, heard_by, given_to, found_none, IsLone, Changes, changes, next_is_by, Pins_is, pins_is, setup_same, setup_kept, All, all, first_more, first_all, HasFile, own_profile, got_is_opened, heard_blocks, get_file, block_at-given, bytes_back, valid_setup, valid_shape, held_file, first_run, shape_in, IsFewWrong}
 use Rattle.std.proofs.Common.{◌≡◌, ℕ, ◌<◌, ◌≤◌, Bool, false, List, [], ◌∷◌, ◌++◌, length, Option, Some, None}
 use Rattle.code_defs.proofs.Profiles.{some_kept}
 use Rattle.machine_defs.specs.Answers as answer
@@ -43,8 +43,7 @@ module _ (limit : ℕ) (start : State) (m : Moment) (ms : List Moment) (A : All 
 pub have_files : (limit : ℕ) (start : State) → IsStart start → (ms : List Moment) → IsRun limit start ms →
     HaveFiles start ms
 have_files limit start clean [] run = λ k j name h kind. absurd (found_none start.jobs k j clean.jobs h)
-have_files limit start clean (m ∷ ms) run =
-    (let A = all limit start clean ms run.2 in
+have_files limit start clean (m ∷ ms) run = (let A = all limit start clean ms run.2 in
     file_step limit start m ms A (have_files limit start clean ms run.2)
     (changes limit (length ms) (now start ms) m.event m.outcome m.state A.numbers.idle run.1))
 
@@ -59,11 +58,9 @@ IsOfGet id action = ⊥
 of_get : (t : Setup) (f : Pinned) → Each (IsOfGet f.id) (read_actions t (f ∷ []) ++ End ∷ [])
 of_get t f = each_append (IsOfGet f.id) (read_actions t (f ∷ [])) (End ∷ [])
     (each_append (IsOfGet f.id) (on_each_stripe (profiled t f.profile) (length f.bytes) (open_actions t f.id))
-    []
-    (each_flat (IsOfGet f.id) (open_actions t f.id) (upto (pinned_stripes t f))
+    [] (each_flat (IsOfGet f.id) (open_actions t f.id) (upto (pinned_stripes t f))
     (λ s. each_append (IsOfGet f.id) (on_each_provider t (λ j. Fetch j f.id s)) (Work f.id s ∷ [])
-    (each_map (IsOfGet f.id) (λ j. Fetch j f.id s) (upto t.n) (λ j. refl)) (refl, tt))) tt)
-    (tt, tt)
+    (each_map (IsOfGet f.id) (λ j. Fetch j f.id s) (upto t.n) (λ j. refl)) (refl, tt))) tt) (tt, tt)
 
 get_next : (w : State) (job : Job) (name : List ℕ) (f : Pinned) → job.kind ≡ GetJob name →
     job.pinned ≡ f ∷ [] →
@@ -95,7 +92,7 @@ pub data Get_ends (old : State) (job : Job) (f : Pinned) (how : Answer) : Type 0
 module _ (old : State) (job : Job) (name : List ℕ) (f : Pinned) (new : State) (kind : job.kind ≡ GetJob name)
     (pinned : job.pinned ≡ f ∷ []) (lone : IsLone old) where
   at_end : (kd : Kind) → kd ≡ GetJob name → (how : Answer) → Ends old job kd how → Get_ends old job f how
-  at_end kd is how h = by_answer how (subst (λ x. Ends old job x how) is h)
+  at_end kd is how h = by_answer how (rw is at h)
     where
       by_answer : (a : Answer) → Ends old job (GetJob name) a → Get_ends old job f a
       by_answer (answer.Got bytes) g = Get_ends.with_bytes bytes refl
@@ -105,14 +102,12 @@ module _ (old : State) (job : Job) (name : List ℕ) (f : Pinned) (new : State) 
       Acts old job (Work o s) (Ended how) new → Get_ends old job f how
   at_work o s o_is next_is (answer.Lost t row) (t_is, lost, is) =
       Get_ends.is_lost t row refl (cc) (subst (λ n. LosesRow (pinned_object old f) n (blocks_given job.given
-      (setup_in old).n f.id n) row) (sym t_is) (subst (λ n. LosesRow (object_in old f.profile n) s
-      (blocks_given job.given (setup_in old).n n s) row) o_is (subst (λ p. LosesRow (object_in old p o) s
+      (setup_in old).n f.id n) row) (sym t_is) (rw o_is at (subst (λ p. LosesRow (object_in old p o) s
       (blocks_given job.given (setup_in old).n o s) row) (own_profile _ _ f o pinned o_is) lost)))
   at_work o s o_is next_is how h = absurd h
 
   at_fetch : (i o s : ℕ) (how : Answer) → Acts old job (Fetch i o s) (Ended how) new → ⊥
-  at_fetch i o s (answer.Lost t row) h = h
-  at_fetch i o s how h = h
+  at_fetch i o s _ h = h
 
   acts : (action : Action) → IsOfGet f.id action → next_action old job ≡ Some action → (how : Answer) →
       Acts old job action (Ended how) new → Get_ends old job f how
@@ -135,13 +130,12 @@ module _ (old : State) (job : Job) (name : List ℕ) (f : Pinned) (new : State) 
   by_job : (found : Option Job) (how : Answer) → found ≡ Some job → StepsJob old found (Ended how) new →
       Get_ends old job f how
   by_job None how is h = absurd h
-  by_job (Some x) how is h = on (next_action old job) how refl
-      (subst (λ (y : Job). StepsOn old y (next_action old y) (Ended how) new) (let e : x ≡ job = cc in e) h)
+  by_job (Some x) how is h = on (next_action old job) how refl (rw (let e : x ≡ job = cc in e) at h)
 
   by_bar : (is_barred : Bool) (how : Answer) → job_of old.jobs job.number ≡ Some job →
       StepsOpen old job.number is_barred (Ended how) new → Get_ends old job f how
   by_bar true how runs h = absurd h
-  by_bar false how runs h = by_job _ how runs (subst (λ (x : Option Alone). StepsOne old job.number x
+  by_bar false how runs h = by_job _ how runs (subst (λ x. StepsOne old job.number x
       (Ended how) new) (none_beside old job.number job lone runs) h)
 
   by_step : (is_open : Bool) (how : Answer) → job_of old.jobs job.number ≡ Some job →
@@ -155,10 +149,9 @@ pub get_ends : (limit : ℕ) (start : State) (m : Moment) (ms : List Moment) (jo
     m.event ≡ Step job.number → m.outcome ≡ Ended how → job_of (now start ms).jobs job.number ≡ Some job →
     job.kind ≡ GetJob name → job.pinned ≡ f ∷ [] → Get_ends (now start ms) job f how
 get_ends limit start m ms job name f how lone run event outcome runs kind pinned =
-    (let h : Happens limit (length ms) (now start ms) (Step job.number) (Ended how) m.state =
-    subst (λ (x : Event). Happens limit (length ms) (now start ms) x (Ended how) m.state) event
-    (subst (λ (r : Outcome). Happens limit (length ms) (now start ms) m.event r m.state) outcome run.1) in
-    by_step (now start ms) job name f m.state kind pinned lone (now start ms).is_open how runs h)
+    (by_step (now start ms) job name f m.state kind pinned lone (now start ms).is_open how runs
+    (subst (λ (x : Event). Happens limit (length ms) (now start ms) x (Ended how) m.state) event
+    (subst (λ (r : Outcome). Happens limit (length ms) (now start ms) m.event r m.state) outcome run.1)))
 
 -- ---- few wrong blocks leave the file
 
@@ -174,11 +167,13 @@ few_seen : (o : Object) (bytes : List ℕ) (given : List Given) (object stripe :
     (upto o.shape.n) ≤ o.shape.b →
     count_of (λ j. is_wrong_block o bytes j stripe (block_at (blocks_given given o.shape.n object stripe) j))
     (upto o.shape.n) ≤ o.shape.b
-few_seen o bytes given object stripe few =
-    (let w = count_of-within (λ j. is_wrong_block o bytes j stripe (block_at (blocks_given given o.shape.n
-    object stripe) j)) (λ j. is_wrong_block o bytes j stripe (block_given given object stripe j)) 0 o.shape.n
-    (λ j l h. cc (block_at-given given o.shape.n object stripe j (omega (arith, l)))) in
-    omega (arith, w, few))
+few_seen o bytes given object stripe few = (omega (
+  arith,
+  count_of-within (λ j. is_wrong_block o bytes j stripe (block_at (blocks_given given o.shape.n
+      object stripe) j)) (λ j. is_wrong_block o bytes j stripe (block_given given object stripe j)) 0 o.shape.n
+      (λ j l h. cc (block_at-given given o.shape.n object stripe j (omega (arith, l)))),
+  few,
+))
 
 module _ (limit : ℕ) (start : State) (m : Moment) (ms : List Moment) (job : Job) (name : List ℕ)
     (clean : IsStart start) (run : IsRun limit start (m ∷ ms))
@@ -209,7 +204,7 @@ module _ (limit : ℕ) (start : State) (m : Moment) (ms : List Moment) (job : Jo
           let shape = shape_of_file limit start (first_moments job.begun ms) name file clean run_b in_effect
           in let opens : OpensFile o (length own) (blocks_given (given_to job.number (heard_by (Some job)))
           (setup_in b).n file.id) bytes =
-          subst (λ (x : File). OpensFile (file_object b x) (length (b.bytes x.id))
+          subst (λ x. OpensFile (file_object b x) (length (b.bytes x.id))
           (blocks_given (given_to job.number (heard_by (Some job))) (setup_in b).n x.id) bytes) same opens_g
           in cc (
             flat_map-range_same (λ s. bytes_of_symbols (opens.symbols s)) (λ s. bytes_of_symbols
@@ -233,19 +228,13 @@ module _ (limit : ℕ) (start : State) (m : Moment) (ms : List Moment) (job : Jo
     where
       by_end : setup_in (now start ms) ≡ setup_in b →
           Get_ends (now start ms) job (pinned_file b file) (answer.Lost stripe row) → ⊥
-      by_end s (Get_ends.with_bytes bytes e) = (let f : answer.Lost stripe row ≡ answer.Got bytes = e in cc)
-      by_end s (Get_ends.is_lost t r e next_is lost) =
-          (let t_is : t ≡ stripe = (let f : answer.Lost stripe row ≡ answer.Lost t r = e in cc) in
-          contradicts t_is (subst
-          (λ (u : Setup). LosesRow (object_of (profiled u file.profile) file.id) t
-          (blocks_given job.given u.n file.id t) r) s lost))
+      by_end s (Get_ends.with_bytes bytes e) = (cc e)
+      by_end s (Get_ends.is_lost t r e next_is lost) = (contradicts (cc e) (rw s at lost))
         where
           contradicts : t ≡ stripe →
               LosesRow (file_object b file) t (blocks_given job.given (setup_in b).n file.id t) r → ⊥
-          contradicts t_is l =
-              l.lost (row_polynomial (file_object b file) (symbols_in (file_object b file) (b.bytes file.id)
-              t) l.place) (row-right _ _ _ t _ _ _ refl (shape_of_file limit start _ name file clean run_b
-              in_effect) (few_seen (file_object b file) (b.bytes file.id) job.given file.id t
-              (subst (IsFewWrong b file job) (sym t_is) few)) l.opens
-              (let room = profile-room (file_object b file) file.profile refl in let k = l.kept in
-              omega (arith, room, k)))
+          contradicts t_is l = l.lost (row_polynomial (file_object b file)
+              (symbols_in (file_object b file) (b.bytes file.id) t) l.place)
+              (row-right _ _ _ t _ _ _ refl (shape_of_file limit start _ name file clean run_b in_effect)
+              (few_seen (file_object b file) (b.bytes file.id) job.given file.id t (rw (← t_is) at few))
+              l.opens (omega (arith, profile-room (file_object b file) file.profile refl, l.kept)))

@@ -1,5 +1,5 @@
 -- What a get was given that a step ended.
-use Rattle.second_half_laws.proofs.Words.{refl, sym, subst, inl, arith, In, stripes, Setup, File, GetJob, Fetched, Job, job_of, profiled, stripes_of, Fetch, Work, Got, Lost, Step, Ended, State, IsStart, setup_in, file_object, file_in, pinned_file, block_given, next_action, Moment, now, first_moments, IsRun, event_end, all, setup_same, next_stands, WasFetched}
+use Rattle.second_half_laws.proofs.Words.{refl, sym, subst, inl, arith, In, stripes, File, GetJob, Fetched, Job, job_of, profiled, stripes_of, Fetch, Work, Got, Lost, Step, Ended, State, IsStart, setup_in, file_object, file_in, pinned_file, block_given, next_action, Moment, now, first_moments, IsRun, event_end, all, setup_same, next_stands, WasFetched}
 use Rattle.std.proofs.Common.{◌≡◌, ℕ, ◌<◌, List, [], ◌∷◌, length, Some}
 use Rattle.second_half_laws.proofs.GetEnds.{begin_of, have_files, Get_ends, get_ends}
 use Rattle.second_half_laws.proofs.Places.{fetched_before_end}
@@ -21,7 +21,7 @@ got_fetched limit start m ms job name bytes file j stripe clean run event outcom
     let pinned : job.pinned ≡ pinned_file b file ∷ [] = cc in let t = setup_same (now start ms) b H.setup in
     let few : stripe < stripes_of (profiled (setup_in (now start ms)) file.profile) (length (b.bytes file.id))
     =
-    subst (λ (u : Setup). stripe < stripes_of (profiled u file.profile) (length (b.bytes file.id))) (sym t) l
+    subst (λ u. stripe < stripes_of (profiled u file.profile) (length (b.bytes file.id))) (sym t) l
     in let F = facts limit start clean ms run.2 in
     let made = fetched_before_end _ job name _ stripe j kind (event_end limit _ _ _ _ _ job _ (λ h. h) event
     outcome runs run.1).0 (subst (In (pinned_file b file)) (sym pinned) (inl refl)) few k in
@@ -44,12 +44,10 @@ lost_fetched limit start m ms job name file j stripe row clean run event outcome
   where
     at_work : (s : ℕ) → s ≡ stripe → next_action (now start ms) job ≡ Some (Work file.id s) →
         WasFetched start ms job j file.id stripe (block_given job.given file.id stripe j)
-    at_work s is next_is =
-        fetched_at start ms (facts limit start clean ms run.2) job.number job job.place j file.id stripe runs
-        (omega arith) (next_stands _ job _ (cc) (λ e. cc)) k
+    at_work s is next_is = fetched_at start ms (facts limit start clean ms run.2) job.number job job.place j
+        file.id stripe runs (omega arith) (next_stands _ job _ (cc) (λ e. cc)) k
 
     by_end : Get_ends (now start ms) job (pinned_file (begin_of start ms job) file) (Lost stripe row) →
         WasFetched start ms job j file.id stripe (block_given job.given file.id stripe j)
-    by_end (Get_ends.with_bytes bytes is) = absurd (let e : Lost stripe row ≡ Got bytes = is in cc)
-    by_end (Get_ends.is_lost s r is next_is lost) =
-        at_work s (let e : Lost stripe row ≡ Lost s r = is in cc) next_is
+    by_end (Get_ends.with_bytes bytes is) = absurd (cc is)
+    by_end (Get_ends.is_lost s r is next_is lost) = at_work s (cc is) next_is

@@ -16,10 +16,8 @@ all_open o bytes stripe (suc n) a l =
 none_pass : (p : ℕ → Bool) (a n : ℕ) → ((j : ℕ) → j < a + n → p j ≡ false) →
     count_of p (range_with_len a n) ≡ 0
 none_pass p a zero h = refl
-none_pass p a (suc n) h =
-    (let e = none_pass p (a + 1) n (λ j l. h j (omega (arith, l))) in
-    rw (h a (omega arith)) (let z : 0 + count_of p (range_with_len (a + 1) n) ≡ 0 = omega (arith, e) in
-    z))
+none_pass p a (suc n) h = (let e = none_pass p (a + 1) n (λ j l. h j (omega (arith, l))) in
+    rw (h a (omega arith)) (omega (arith, e)))
 
 block_at_own : (o : Object) (bytes : List ℕ) (stripe j : ℕ) → j < o.shape.n →
     block_at (own_blocks o bytes stripe) j ≡ Some (columns o bytes j stripe)
@@ -37,8 +35,11 @@ own_give o bytes number stripe is shape = given-right o bytes number stripe _ _ 
 
     few : count_of (λ j. is_wrong_block o bytes j stripe (block_at (own_blocks o bytes stripe) j))
         (upto o.shape.n) ≤ o.shape.b
-    few = (let e = none_pass (λ j. is_wrong_block o bytes j stripe (block_at (own_blocks o bytes stripe) j)) 0
-        o.shape.n (λ j l. cc (
-          block_at_own o bytes stripe j (omega (arith, l)),
-          column-right o bytes j stripe,
-        )) in omega (arith, e))
+    few = (omega (
+      arith,
+      none_pass (λ j. is_wrong_block o bytes j stripe (block_at (own_blocks o bytes stripe) j)) 0
+          o.shape.n (λ j l. cc (
+            block_at_own o bytes stripe j (omega (arith, l)),
+            column-right o bytes j stripe,
+          )),
+    ))

@@ -1,14 +1,12 @@
 -- What an audit or a repair whose record is in doubt worked on, whether its job runs on or has ended.
-use Rattle.second_half_laws.proofs.Words.{true, ◌⊎◌, refl, ap, sym, subst, ◌∙◌, inl, inr, arith, slice_get, cases_Bool, cases_lt, false≢true, In, some-not-none, columns, Setup, setup_of, next_id, started_as, AuditJob, RepairJob, Pinned, Job, job_of, advanced, WriteGate, Store, Remove, actions_of, State, Doubt, Scrubbing, IsStart, setup_in, worked_object, next_action, Moment, now, first_moments, is_replacement, is_replaced_since, IsRun, Mark, IsCalm, relies, AllTell, told_block, HasMadeStore, same_value, found_none, Block_is, Changes, changes, audits, is_fair, store_place, setup_same, All, all, actions_are, first_more, replaced_before, store_kinds, remove_kinds, next_stands, actions_by-advanced, AreMarks}
-use Rattle.std.proofs.Common.{◌≡◌, ℕ, suc, ◌+◌, ◌≤◌, ◌<◌, false, List, [], ◌∷◌, length, Option, Some}
-use Rattle.machine_defs.proofs.Numbers as num
-use Rattle.run_laws.proofs.InEffect as eff
+use Rattle.second_half_laws.proofs.Words.{true, ◌⊎◌, refl, ap, sym, subst, ◌∙◌, inl, inr, arith, slice_get, cases_Bool, cases_lt, false≢true, In, some-not-none, columns, Setup, setup_of, next_id, started_as, AuditJob, RepairJob, Pinned, Job, job_of, advanced, WriteGate, Store, Remove, actions_of, State, Doubt, Scrubbing, IsStart, setup_in, worked_object, next_action, Moment, now, first_moments, is_replacement, is_replaced_since, IsRun, Mark, IsCalm, relies, AllTell, told_block, HasMadeStore, same_value, found_none, Block_is, is_fair, store_place, setup_same, actions_are, first_more, replaced_before, store_kinds, remove_kinds, next_stands, actions_by-advanced, AreMarks}
+use Rattle.std.proofs.Common.{◌≡◌, ℕ, ◌+◌, ◌≤◌, ◌<◌, false, List, [], ◌∷◌, length, Option, Some}
 use Rattle.second_half_laws.proofs.Onward.{run_onward, all_tell}
 use Rattle.second_half_laws.proofs.Walk.{walked}
-use Rattle.second_half_laws.proofs.Turns.{Doubt_now, Turns, turns}
+use Rattle.second_half_laws.proofs.Turns.{Doubt_now}
 use Rattle.second_half_laws.proofs.Quiet.{IsAtRest, quiet_blocks}
 use Rattle.second_half_laws.proofs.Blocks.{since_now}
-use Rattle.second_half_laws.proofs.EveryRun.{Always, always}
+use Rattle.second_half_laws.proofs.EveryRun.{Around, around}
 use Rattle.second_half_laws.proofs.Readers as rd
 use Rattle.second_half_laws.proofs.SecondHalf.{calm_now, marked_facts}
 
@@ -29,13 +27,12 @@ pub record Kept (start : State) (ms : List Moment) : Type 0 where
       d.maker ≡ Some job → job.kind ≡ AuditJob → In f job.pinned → is_replaced_since job.begun i ms ≡ false →
       told_block (now start ms) i f.id s ≡ told_block (now start (first_moments job.begun ms)) i f.id s
 
-module _ (limit : ℕ) (start : State) (m : Moment) (ms : List Moment) (A : All start ms) (E : Always start ms)
-    (K : Kept start ms)
-    (X : Changes limit (length ms) (now start ms) m.event m.outcome m.state)
-    (T : Turns (now start ms) m.state)
-    (Q : IsAtRest (now start ms) → (i o s : ℕ) →
+module _ {limit : ℕ} {start : State} {m : Moment} {ms : List Moment} (N : Around limit start m ms)
+    (K : Kept start ms) (Q : IsAtRest (now start ms) → (i o s : ℕ) →
     (told_block m.state i o s ≡ told_block (now start ms) i o s) ⊎
     (is_replacement m.event m.outcome i ≡ true)) where
+  open N use {facts as A, kept as E, changed as X, turned as T}
+
   -- the state after these moments
   abbrev w : State
   w = now start ms
@@ -60,9 +57,8 @@ module _ (limit : ℕ) (start : State) (m : Moment) (ms : List Moment) (A : All 
         ])
     | Block_is.scrubbed scrub rest at next_is is ↦ absurd (found_none w.jobs x.number x (A.numbers.idle.lone
         (Scrubbing scrub) at) runs)
-    | Block_is.removed y runs_y next_y ↦
-        absurd (A.pins.older_free y.number x.number y x f.id f runs_y (remove_kinds y y.kind i f.id refl
-        (is_fair w y (Remove i f.id) next_y)) runs in_f refl)
+    | Block_is.removed y runs_y next_y ↦ absurd (A.pins.older_free y.number x.number y x f.id f runs_y
+        (remove_kinds y y.kind i f.id refl (is_fair w y (Remove i f.id) next_y)) runs in_f refl)
   ]
 
   -- a file of the audit whose record was in doubt before the event
@@ -75,28 +71,6 @@ module _ (limit : ℕ) (start : State) (m : Moment) (ms : List Moment) (A : All 
         running_block job f i s (cc) kind in_f)
   ]
 
-  begun_step : (d : Doubt) (job : Job) → m.state.doubt ≡ Some d → d.maker ≡ Some job →
-      job.begun ≤ suc (length ms)
-  begun_step d job h maker = elim (T.doubt d h) [
-    | Doubt_now.kept was rec ↦ (let l = K.begun d job was maker in omega arith)
-    | Doubt_now.gated x a runs next_is flight mine entry_is maker_is rec on ↦
-        (let e : job ≡ advanced x = cc in let b : job.begun ≡ x.begun = cc in
-        let l = A.held.begun x.number x runs in omega arith)
-    | Doubt_now.set_up t entry_is bare none closed ↦ absurd (some-not-none d.maker job maker bare)
-  ]
-
-  below_step : (d : Doubt) (job : Job) (f : Pinned) → m.state.doubt ≡ Some d → d.maker ≡ Some job →
-      In f job.pinned → f.id < next_id m.state.records
-  below_step d job f h maker in_f = elim (T.doubt d h) [
-    | Doubt_now.kept was rec ↦
-        (let l = K.below d job f was maker in_f in let e = ap next_id rec in omega arith)
-    | Doubt_now.gated x a runs next_is flight mine entry_is maker_is rec on ↦
-        (let e : job ≡ advanced x = cc in
-        let l = (A.pins.pins x.number x f runs (subst (λ (y : Job). In f y.pinned) e in_f)).0 in
-        let r = ap next_id rec in omega arith)
-    | Doubt_now.set_up t entry_is bare none closed ↦ absurd (some-not-none d.maker job maker bare)
-  ]
-
   audited_step : (d : Doubt) (job : Job) (f : Pinned) (i s : ℕ) → m.state.doubt ≡ Some d →
       d.maker ≡ Some job → job.kind ≡ AuditJob → In f job.pinned →
       is_replaced_since job.begun i (m ∷ ms) ≡ false →
@@ -107,7 +81,7 @@ module _ (limit : ℕ) (start : State) (m : Moment) (ms : List Moment) (A : All 
         (K.audited d job f i s was maker kind in_f (replaced_before job.begun i m ms none))
     | Doubt_now.gated x a runs next_is flight mine entry_is maker_is rec on ↦
         (let e : job ≡ advanced x = cc in let begun : job.begun ≡ x.begun = cc in
-        let kx : x.kind ≡ AuditJob = cc in let in_x = subst (λ (y : Job). In f y.pinned) e in_f in
+        let kx : x.kind ≡ AuditJob = cc in let in_x = subst (λ y. In f y.pinned) e in_f in
         behind (let l = A.held.begun x.number x runs in omega arith) (running_block x f i s runs kx in_x)
         (cc (A.held.audited x.number x f i s runs kx in_x (subst (λ n. is_replaced_since n i ms ≡ false) begun
         (replaced_before job.begun i m ms none)))))
@@ -124,7 +98,25 @@ module _ (limit : ℕ) (start : State) (m : Moment) (ms : List Moment) (A : All 
       ]
 
   kept_step : Kept start (m ∷ ms)
-  kept_step = record { begun = begun_step; below = below_step; audited = audited_step }
+  kept_step = record {
+    begun = λ d job h maker. elim (T.doubt d h) [
+      | Doubt_now.kept was rec ↦ (let l = K.begun d job was maker in omega arith)
+      | Doubt_now.gated x a runs next_is flight mine entry_is maker_is rec on ↦
+          (let e : job ≡ advanced x = cc in let b : job.begun ≡ x.begun = cc in
+          let l = A.held.begun x.number x runs in omega arith)
+      | Doubt_now.set_up t entry_is bare none closed ↦ absurd (some-not-none d.maker job maker bare)
+    ];
+    below = λ d job f h maker in_f. elim (T.doubt d h) [
+      | Doubt_now.kept was rec ↦
+          (let l = K.below d job f was maker in_f in let e = ap next_id rec in omega arith)
+      | Doubt_now.gated x a runs next_is flight mine entry_is maker_is rec on ↦
+          (let e : job ≡ advanced x = cc in
+          let l = (A.pins.pins x.number x f runs (subst (λ y. In f y.pinned) e in_f)).0 in
+          let r = ap next_id rec in omega arith)
+      | Doubt_now.set_up t entry_is bare none closed ↦ absurd (some-not-none d.maker job maker bare)
+    ];
+    audited = audited_step;
+  }
 
 -- in every run the blocks of an audit whose record is in doubt are those at its begin, but for replacements
 pub kept : (limit : ℕ) (start : State) → IsStart start → (ms : List Moment) → IsRun limit start ms →
@@ -135,11 +127,8 @@ kept limit start clean [] run = record {
   audited = λ d job f i s h. absurd (some-not-none start.doubt d h clean.doubt);
 }
 kept limit start clean (m ∷ ms) run =
-    (let A = all limit start clean ms run.2 in
-    kept_step limit start m ms A (always limit start clean ms run.2) (kept limit start clean ms run.2)
-    (changes limit (length ms) (now start ms) m.event m.outcome m.state A.numbers.idle run.1)
-    (turns (now start ms) limit (length ms) m.event m.outcome m.state run.1)
-    (λ rest. quiet_blocks (now start ms) limit (length ms) m.event m.outcome m.state rest run.1))
+    kept_step (around limit start m ms clean run) (kept limit start clean ms run.2)
+    (λ rest. quiet_blocks (now start ms) limit (length ms) m.event m.outcome m.state rest run.1)
 
 -- ---- repairs, in a run that is calm by a mark
 
@@ -152,11 +141,7 @@ Rewritten start ms = (d : Doubt) (job : Job) (i o s : ℕ) (b : Option (List ℕ
 
 -- what a job made by a setup it made by one that is the same
 made_alike : (t u : Setup) (job : Job) (i o s : ℕ) → t ≡ u → HasMadeStore t job i o s → HasMadeStore u job i o s
-made_alike t u job i o s same made = record {
-  place = made.place;
-  made = made.made;
-  action = cc;
-}
+made_alike t u job i o s same made = record { place = made.place; made = made.made; action = cc }
 
 -- the stores of a repair before its third move were made before
 made_before : (t : Setup) (w : State) (x job : Job) (i o s : ℕ) → t ≡ setup_in w → job ≡ advanced x →
@@ -176,7 +161,7 @@ made_before t w x job i o s setup e next_is made = record { place = made.place; 
       | inr k ↦ absurd (let here : made.place ≡ x.place = omega arith in
           let z : WriteGate ≡ Store i o s = same_value _ WriteGate (Store i o s)
           (next_stands w x WriteGate next_is (λ q. cc))
-          (subst (λ n. slice_get (actions_of (setup_in w) x) n ≡ Some (Store i o s)) here at_x) in cc)
+          (rw here at at_x) in cc)
     ])
 
 -- what a repair stored whose record is in doubt is the file's own, but for replacements
@@ -188,15 +173,10 @@ rewritten limit mark start clean tell [] run calm marks =
 rewritten limit mark start clean tell (m ∷ ms) run calm marks =
     step (rewritten limit mark start clean tell ms run.2 calm.1 marks.1)
   where
-    A : All start ms
-    A = all limit start clean ms run.2
+    N : Around limit start m ms
+    N = around limit start m ms clean run
 
-    E : Always start ms
-    E = always limit start clean ms run.2
-
-    X : Changes limit (length ms) (now start ms) m.event m.outcome m.state
-    X = changes limit (length ms) (now start ms) m.event m.outcome m.state
-        (all limit start clean ms run.2).numbers.idle run.1
+    open N use {facts as A, kept as E, changed as X, turned as T}
 
     -- while the repair runs
     while_running : (x : Job) (i o s : ℕ) (b : Option (List ℕ)) →
@@ -205,18 +185,14 @@ rewritten limit mark start clean tell (m ∷ ms) run calm marks =
         told_block m.state i o s ≡ Some b →
         b ≡ Some (columns (worked_object (now start ms) x o) ((now start ms).bytes o) i s)
     while_running x i o s b runs kind made none told =
-        rd.carry limit mark start m ms clean run.2 A (num.facts audits limit start clean ms run.2)
-        (eff.facts limit start ms clean run.2) E
-        (marked_facts limit mark start clean tell ms run.2 calm.1 marks.1) X
-        (turns (now start ms) limit (length ms) m.event m.outcome m.state run.1)
-        (walked (length ms) (now start ms) limit m.event m.outcome m.state
-        (all limit start clean ms run.2).numbers.idle.lone run.1) (run_onward limit start m ms run)
-        (all_tell limit start ms tell run.2) (calm_now mark start clean ms calm.1) x.number x i o s b
-        runs kind made none told
+        rd.carry N (marked_facts limit mark start clean tell ms run.2 calm.1 marks.1)
+        (walked (length ms) (now start ms) limit m.event m.outcome m.state A.numbers.idle.lone run.1)
+        (run_onward limit start m ms run) (all_tell limit start ms tell run.2)
+        (calm_now mark start clean ms calm.1) x.number x i o s b runs kind made none told
 
     step : Rewritten start ms → Rewritten start (m ∷ ms)
     step before d job i o s b h maker kind made none told =
-        elim ((turns (now start ms) limit (length ms) m.event m.outcome m.state run.1).doubt d h) [
+        elim (T.doubt d h) [
           | Doubt_now.kept was rec ↦ (let setup = setup_same m.state (now start ms) (ap setup_of rec) in
               let old = made_alike _ _ job i o s setup made in
               let p = rd.made_pin (setup_in (now start ms)) job i o s kind old in
@@ -228,10 +204,8 @@ rewritten limit mark start clean tell (m ∷ ms) run calm marks =
                 | inr rest ↦ elim (quiet_blocks (now start ms) limit
                     (length ms) m.event m.outcome m.state rest run.1 i o s) [
                       | inl e ↦ before d job i o s b was maker kind old
-                          (replaced_before job.begun i m ms none)
-                          (sym e ∙ told)
-                      | inr r ↦ absurd (false≢true
-                          (sym none ∙ since_now job.begun i m ms r
+                          (replaced_before job.begun i m ms none) (sym e ∙ told)
+                      | inr r ↦ absurd (false≢true (sym none ∙ since_now job.begun i m ms r
                           ((kept limit start clean ms run.2).begun d job was maker)))
                     ]
               ]))

@@ -1,13 +1,10 @@
 -- What holds in runs that are calm, for the laws.
-use Rattle.second_half_laws.proofs.Words.{true, ◌⊎◌, refl, sym, subst, inl, inr, arith, list_any, range_with_len, or_cases, false≢true, Object, stripes, columns, is_wrong, is_wrong_block, Record, File, Held, State, Doubt, IsStart, setup_in, object_in, file_object, file_in, Moment, IsRun, now, is_replaced_since, came, Mark, since, relies, IsCalm, is_wrong_told, is_wrong_now, AreScrubsCalm, begun_of, AllTell, told_block, audits, changes, all, IsBad, IsReplaced, IsEndOfPut, Never, PrecedesPuts, IsClear, IsMark, AreMarks, IsMarkedRun, IsCalmRun}
+use Rattle.second_half_laws.proofs.Words.{true, ◌⊎◌, refl, sym, subst, inl, inr, arith, list_any, range_with_len, or_cases, false≢true, Object, stripes, columns, is_wrong, is_wrong_block, Record, File, Held, State, Doubt, IsStart, setup_in, object_in, file_object, file_in, Moment, IsRun, now, is_replaced_since, came, Mark, since, relies, IsCalm, is_wrong_told, is_wrong_now, AreScrubsCalm, begun_of, AllTell, told_block, IsBad, IsReplaced, IsEndOfPut, Never, PrecedesPuts, IsClear, IsMark, AreMarks, IsMarkedRun, IsCalmRun}
 use Rattle.std.proofs.Common.{◌≡◌, ℕ, zero, suc, ◌+◌, ◌<◌, Bool, false, List, [], ◌∷◌, length, Option, Some, None}
-use Rattle.machine_defs.proofs.Numbers as num
-use Rattle.run_laws.proofs.InEffect as eff
-use Rattle.second_half_laws.proofs.Turns.{turns}
 use Rattle.second_half_laws.proofs.Blocks.{ends_ended}
 use Rattle.second_half_laws.proofs.Points as pt
 use Rattle.second_half_laws.proofs.EveryRun as ev
-use Rattle.second_half_laws.proofs.EveryRun.{always}
+use Rattle.second_half_laws.proofs.EveryRun.{around}
 use Rattle.second_half_laws.proofs.Points.{Facts, rows_right}
 use Rattle.second_half_laws.proofs.ScrubFacts.{scrubs_right}
 use Rattle.second_half_laws.proofs.Exact.{Owns, owns_on}
@@ -40,7 +37,7 @@ some_stripe : (f : ℕ → Bool) (a n : ℕ) → list_any f (range_with_len a n)
 some_stripe f a zero h = absurd (false≢true h)
 some_stripe f a (suc n) h = elim (or_cases (f a) (list_any f (range_with_len (a + 1) n)) h) [
   | inl t ↦ (a, omega arith, t)
-  | inr r ↦ (let q = some_stripe f (a + 1) n r in (q.0, (let l = q.1 in omega (arith, l)), q.2))
+  | inr r ↦ (let q = some_stripe f (a + 1) n r in (q.0, (omega (arith, q.1)), q.2))
 ]
 
 wrong_stripe : (o : Object) (bytes : List ℕ) (j : ℕ) (held : ℕ → Option (List ℕ)) →
@@ -49,7 +46,7 @@ wrong_stripe : (o : Object) (bytes : List ℕ) (j : ℕ) (held : ℕ → Option 
 unfolding is_wrong
 wrong_stripe o bytes j held h =
     (let q = some_stripe (λ s. is_wrong_block o bytes j s (held s)) 0 (stripes o (length bytes)) h in
-    (q.0, (let l = q.1 in omega (arith, l)), q.2))
+    (q.0, (omega (arith, q.1)), q.2))
 
 wrong_bad : (w : State) (f : File) (j : ℕ) → is_wrong_now w f j ≡ true →
     (s : ℕ) × (s < stripes (file_object w f) (length (w.bytes f.id))) × IsBad w f.profile f.id j s
@@ -82,26 +79,22 @@ clears_all start ms from clear name file j h l wrong =
 pub mark_stays : (limit : ℕ) (mark : Mark) (start : State) (m : Moment) (ms : List Moment) →
     IsMarkedRun limit mark start ms → AreScrubsCalm mark ms → IsRun limit start (m ∷ ms) → (from : ℕ) →
     IsMark start ms from → IsMark start (m ∷ ms) from
-mark_stays limit mark start m ms h scrubs run from P = (let A = all limit start h.clean ms run.2 in
-    pt.mark_on limit mark start m ms h.clean run.2 A (num.facts audits limit start h.clean ms run.2)
-    (eff.facts limit start ms h.clean run.2) (always limit start h.clean ms run.2)
-    (changes limit (length ms) (now start ms) m.event m.outcome m.state A.numbers.idle run.1)
-    (turns (now start ms) limit (length ms) m.event m.outcome m.state run.1)
+mark_stays limit mark start m ms h scrubs run from P = (let N = around limit start m ms h.clean run in
+    pt.mark_on N
     (rows_right mark start ms (in_run limit mark start ms h))
-    (scrubs_right mark start ms A (marked_scrubs limit mark start h.clean h.tell ms run.2 scrubs h.marks))
+    (scrubs_right mark start ms N.facts
+    (marked_scrubs limit mark start h.clean h.tell ms run.2 scrubs h.marks))
     from P)
 
 -- own columns stay so, since a moment before which no put began that works
 pub owns_stay : (limit : ℕ) (mark : Mark) (start : State) (m : Moment) (ms : List Moment) →
     IsMarkedRun limit mark start ms → AreScrubsCalm mark ms → IsRun limit start (m ∷ ms) → (from : ℕ) →
     PrecedesPuts start ms from → Owns start ms from → Owns start (m ∷ ms) from
-owns_stay limit mark start m ms h scrubs run from P owns = (let A = all limit start h.clean ms run.2 in
-    owns_on limit start m ms h.clean run.2 A (num.facts audits limit start h.clean ms run.2)
-    (eff.facts limit start ms h.clean run.2) (always limit start h.clean ms run.2)
-    (changes limit (length ms) (now start ms) m.event m.outcome m.state A.numbers.idle run.1)
-    (turns (now start ms) limit (length ms) m.event m.outcome m.state run.1)
+owns_stay limit mark start m ms h scrubs run from P owns = (let N = around limit start m ms h.clean run in
+    owns_on N
     (rows_right mark start ms (in_run limit mark start ms h))
-    (scrubs_right mark start ms A (marked_scrubs limit mark start h.clean h.tell ms run.2 scrubs h.marks))
+    (scrubs_right mark start ms N.facts
+    (marked_scrubs limit mark start h.clean h.tell ms run.2 scrubs h.marks))
     from P owns)
 
 -- where a put's end comes into effect
@@ -114,29 +107,21 @@ pub came_columns : (limit : ℕ) (start : State) (m : Moment) (ms : List Moment)
     is_replaced_since (begun_of d.maker) j (m ∷ ms) ≡ false →
     told_block m.state j id stripe ≡ Some block → block
     ≡ Some (columns (object_in m.state profile id) (m.state.bytes id) j stripe))
-came_columns limit start m ms r id size profile clean run e ends = (let A = all limit start clean ms run.2 in
-    let U = num.facts audits limit start clean ms run.2 in let I = eff.facts limit start ms clean run.2 in
-    let E = always limit start clean ms run.2 in
-    let X = changes limit (length ms) (now start ms) m.event m.outcome m.state A.numbers.idle run.1 in
-    let T = turns (now start ms) limit (length ms) m.event m.outcome m.state run.1 in
-    let c = ev.put_came limit start m ms A U I E X T r id (ends_ended _ r id size _ ends) e in
-    let own : IsEndOfPut (now start ms).records c.doubt.entry id size profile =
-    subst (λ x. IsEndOfPut (now start ms).records x id size profile) (sym c.entry) ends in (
+came_columns limit start m ms r id size profile clean run e ends =
+    (let N = around limit start m ms clean run in
+    let c = ev.put_came N r id (ends_ended _ r id size _ ends) e in (
       c.doubt,
       c.at,
       c.entry,
-      λ j stripe block l b none told. ev.put_right limit start m ms A U I E X T c.doubt id size profile j
-          stripe block c.at own c.setup l b none told,
+      λ j stripe block l b none told. ev.put_right N c.doubt id size profile j
+          stripe block c.at (subst (λ x. IsEndOfPut (now start ms).records x id size profile) (sym c.entry)
+          ends) c.setup l b none told,
     ))
 
 -- a moment before which no put began that works stays one
 pub before_stays : (limit : ℕ) (start : State) (m : Moment) (ms : List Moment) (from : ℕ) → IsStart start →
     IsRun limit start (m ∷ ms) → PrecedesPuts start ms from → PrecedesPuts start (m ∷ ms) from
-before_stays limit start m ms from clean run P = (let A = all limit start clean ms run.2 in
-    ev.before_on limit start m ms A (num.facts audits limit start clean ms run.2)
-    (eff.facts limit start ms clean run.2) (always limit start clean ms run.2)
-    (changes limit (length ms) (now start ms) m.event m.outcome m.state A.numbers.idle run.1)
-    (turns (now start ms) limit (length ms) m.event m.outcome m.state run.1) from P)
+before_stays limit start m ms from clean run P = ev.before_on (around limit start m ms clean run) from P
 
 -- the start of a run, as a mark
 start_marks : (limit : ℕ) (start : State) → IsStart start → AllTell start → (ms : List Moment) →
@@ -147,8 +132,7 @@ start_marks limit start clean tell (m ∷ ms) run calm scrubs =
     step (start_marks limit start clean tell ms run.2 calm.1 scrubs.1)
   where
     step : AreMarks (λ hs. 0) start ms → AreMarks (λ hs. 0) start (m ∷ ms)
-    step marks =
-        (let h : IsMarkedRun limit (λ hs. 0) start ms =
+    step marks = (let h : IsMarkedRun limit (λ hs. 0) start ms =
         record { clean = clean; tell = tell; run = run.2; calm = calm.1; marks = marks } in (
           mark_stays limit (λ hs. 0) start m ms h scrubs.1 run 0 (in_run limit (λ hs. 0) start ms h).moment,
           marks,

@@ -1,5 +1,5 @@
 -- The setup in effect is that of the init that came to ready.
-use Rattle.second_half_laws.proofs.Words.{true, ap, subst, Setup, is_setup, setup_of, setup_or_none, Event, Init, Outcome, Ready, State, IsStart, setup_in, InitsBy, Inits, Happens, Moment, now, IsRun, run_back}
+use Rattle.second_half_laws.proofs.Words.{true, ap, subst, Setup, is_setup, setup_of, setup_or_none, Init, Ready, State, IsStart, setup_in, InitsBy, Inits, Happens, Moment, now, IsRun, run_back}
 use Rattle.std.proofs.Common.{◌≡◌, ℕ, Bool, false, List, ◌∷◌, ◌++◌, length, Some}
 use Rattle.second_half_laws.proofs.Doubts.{setups_stay}
 
@@ -21,10 +21,7 @@ setup_is w s h = ap setup_or_none h
 pub init_sets_up : (limit : ℕ) (start : State) (later ms : List Moment) (m : Moment) (s : Setup) →
     IsStart start → IsRun limit start (later ++ m ∷ ms) → m.event ≡ Init s → m.outcome ≡ Ready →
     setup_in (now start (later ++ m ∷ ms)) ≡ s
-init_sets_up limit start later ms m s clean run event outcome =
-    setup_is (now start (later ++ m ∷ ms)) s
-    (setups_stay limit start later (m ∷ ms) s clean run
-    (inits (now start ms) s (now start ms).is_open m.state
-    (subst (λ (e : Event). Happens limit (length ms) (now start ms) e Ready m.state) event
-    (subst (λ (r : Outcome). Happens limit (length ms) (now start ms) m.event r m.state) outcome
-    (run_back limit start later (m ∷ ms) run).1))))
+init_sets_up limit start later ms m s clean run event outcome = setup_is (now start (later ++ m ∷ ms)) s
+    (setups_stay limit start later (m ∷ ms) s clean run (inits (now start ms) s (now start ms).is_open m.state
+    (subst (λ e. Happens limit (length ms) (now start ms) e Ready m.state) event
+    (rw outcome at (run_back limit start later (m ∷ ms) run).1))))

@@ -54,8 +54,7 @@ module _ (limit : ℕ) (start : State) (m : Moment) (ms : List Moment) (A : All 
 pub effect_stays : (limit : ℕ) (start : State) (m : Moment) (ms : List Moment) (name : List ℕ) (file : File)
     (j stripe : ℕ) → IsStart start → IsRun limit start (m ∷ ms) → file_in (now start ms) name ≡ Some file →
     Stays (now start ms) m j file.id stripe ⊎ IsScrubbed (now start ms) m j file.id stripe
-effect_stays limit start m ms name file j stripe clean run h =
-    (let A = all limit start clean ms run.2 in
+effect_stays limit start m ms name file j stripe clean run h = (let A = all limit start clean ms run.2 in
     in_effect_stays limit start m ms A
     (changes limit (length ms) (now start ms) m.event m.outcome m.state A.numbers.idle run.1) name file j
     stripe h)

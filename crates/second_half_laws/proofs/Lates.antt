@@ -1,5 +1,5 @@
 -- Behind its asks an audit hears nothing more: its verdict is the same at each later moment.
-use Rattle.second_half_laws.proofs.Words.{ap, sym, subst, ◌∙◌, arith, slice_get, Setup, setup_of, AuditJob, Job, job_of, Action, ask_actions, actions_by, State, IsStart, setup_in, next_action, Moment, now, IsRun, NoneBegan, same_value, Gave, Job_is, changes, all, objects, next_is_by, first_above, drawn_later, setup_same}
+use Rattle.second_half_laws.proofs.Words.{ap, sym, ◌∙◌, arith, Setup, setup_of, AuditJob, Job, job_of, Action, ask_actions, State, IsStart, setup_in, next_action, Moment, now, IsRun, NoneBegan, same_value, Gave, Job_is, changes, all, objects, next_is_by, first_above, drawn_later, setup_same}
 use Rattle.std.proofs.Common.{◌≡◌, ℕ, ◌+◌, ◌≤◌, List, [], ◌∷◌, ◌++◌, length, Some}
 use Rattle.machine_defs.proofs.Began.{Came, came_all}
 use Rattle.machine_defs.proofs.Numbers as num
@@ -18,9 +18,9 @@ pub record Later (j x : Job) : Type 0 where
 mute_gave : (old : State) (before : Job) (action : Action) (job : Job) → IsMute action →
     Gave old before action job → job.given ≡ before.given
 mute_gave old before action job mute (Gave.nothing quiet e) = e
-mute_gave old before action job mute (Gave.fetched i o s block is e) = absurd (subst IsMute is mute)
-mute_gave old before action job mute (Gave.answered i o r symbol is e) = absurd (subst IsMute is mute)
-mute_gave old before action job mute (Gave.worked o s symbols is gives e) = absurd (subst IsMute is mute)
+mute_gave old before action job mute (Gave.fetched i o s block is e) = absurd (rw is at mute)
+mute_gave old before action job mute (Gave.answered i o r symbol is e) = absurd (rw is at mute)
+mute_gave old before action job mute (Gave.worked o s symbols is gives e) = absurd (rw is at mute)
 
 module _ (limit : ℕ) (start : State) (clean : IsStart start) (ms : List Moment) (s : Setup)
     (up : setup_of (now start ms).records ≡ Some s) (k : ℕ) (j : Job)
@@ -39,18 +39,15 @@ module _ (limit : ℕ) (start : State) (clean : IsStart start) (ms : List Moment
   next_mute : (l : List Moment) → IsRun limit start (l ++ ms) → (x : Job) (action : Action) → Later j x →
       next_action (now start (l ++ ms)) x ≡ Some action → IsMute action
   next_mute l run x action L next_is = (let w = now start (l ++ ms) in
-      let x_kind : x.kind ≡ AuditJob = L.kind ∙ kind in
-      let listed : slice_get (actions_by (setup_in w) x AuditJob) x.place ≡ Some action =
-      cc (next_is_by w x) in
-      let asks : length (ask_actions (setup_in w) x) ≡ length (ask_actions (setup_in here) j) =
+      let x_kind = L.kind ∙ kind in
+      let asks =
       asks_same (setup_in w) (setup_in here) x j (setup_later l run) L.pinned in let place = L.place in
       audit_mute (setup_in w) x x.place action x_kind (of_kind (setup_in w) x AuditJob x.place action x_kind
-      listed) (omega arith))
+      (cc (next_is_by w x))) (omega arith))
     where
       asks_same : (t u : Setup) (x y : Job) → t ≡ u → x.pinned ≡ y.pinned →
           length (ask_actions t x) ≡ length (ask_actions u y)
-      asks_same t u x y setup pinned =
-          ap (λ z. length (ask_actions z x)) setup
+      asks_same t u x y setup pinned = ap (λ z. length (ask_actions z x)) setup
           ∙ ap (λ fs. length (ask_actions u (record x { pinned = fs }))) pinned
 
   -- at each later moment at which it runs it is such
@@ -85,8 +82,7 @@ module _ (limit : ℕ) (start : State) (clean : IsStart start) (ms : List Moment
             kind = goes.kind ∙ L.kind;
             place = (let p = goes.place in let q = L.place in omega arith);
           })
-      by_change so y at (Job_is.drew before was next_is none_ is rec) =
-          (let L = so before was in
+      by_change so y at (Job_is.drew before was next_is none_ is rec) = (let L = so before was in
           let p = L.place in record {
             given = cc;
             pinned = cc;

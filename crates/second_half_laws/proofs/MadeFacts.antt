@@ -1,8 +1,8 @@
 -- What running jobs have made, and what it gave them.
-use Rattle.second_half_laws.proofs.Words.{◌⊎◌, true, ◌&&◌, refl, ap, sym, subst, ◌∙◌, inl, inr, arith, slice_get, cases_Bool, cases_lt, and_parts, and_from, eqb-true, eq-eqb, false≢true, In, each_get, each_append, honest_answer, challenge_of, SeenBlock, GivesSymbols, block_at, Held, AskGives, Setup, Kind, PutJob, GetJob, DropJob, AuditJob, RepairJob, UpgradeJob, Pinned, Given, Fetched, Answered, Worked, Job, job_of, object_of, profiled, Action, SyncBody, WriteGate, Store, Remove, Fetch, Ask, Work, End, append_actions, store_actions, read_actions, repair_actions, ask_actions, remove_actions, actions_by, actions_of, State, IsStart, setup_in, block_given, blocks_given, answer_given, symbols_given, pinned_size, pinned_profile, next_action, Moment, now, IsRun, Makes, same_value, found_none, split_get, Changes, changes, setup_stays, All, all, block_at-given, next_stands, IsHeldThen, IsEarlier, WasMade, WasFetched, WasAsked, WasOpened, IsAnsweredThen, HasMade}
-use Rattle.std.proofs.Common.{◌≡◌, ℕ, suc, ◌<◌, ◌≤◌, ◌==◌, false, List, [], ◌∷◌, ◌++◌, length, Option, Some}
+use Rattle.second_half_laws.proofs.Words.{◌⊎◌, true, ◌&&◌, refl, ap, sym, subst, ◌∙◌, inl, inr, arith, slice_get, cases_Bool, cases_lt, and_parts, and_from, eqb-true, eq-eqb, false≢true, In, in_right, each_get, each_append, honest_answer, challenge_of, SeenBlock, GivesSymbols, block_at, Held, AskGives, Setup, Kind, GetJob, RepairJob, UpgradeJob, Pinned, Given, Fetched, Answered, Worked, Job, job_of, object_of, profiled, Action, Store, Fetch, Ask, Work, End, append_actions, read_actions, repair_actions, actions_by, actions_of, State, IsStart, setup_in, block_given, blocks_given, answer_given, symbols_given, pinned_size, pinned_profile, next_action, Moment, now, IsRun, same_value, found_none, split_get, Changes, changes, setup_stays, All, all, block_at-given, next_stands, IsHeldThen, IsEarlier, WasMade, WasFetched, WasAsked, WasOpened, IsAnsweredThen, HasMade}
+use Rattle.std.proofs.Common.{◌≡◌, ℕ, ◌<◌, ◌≤◌, ◌==◌, Bool, false, List, [], ◌∷◌, ◌++◌, length, Option, Some}
 use Rattle.std.proofs.lemmas.List.{append_assoc}
-use Rattle.second_half_laws.proofs.Places.{fetch_before_work, by_kind, moves_all, stores_all, tail_all, reads_all, repairs_all}
+use Rattle.second_half_laws.proofs.Places.{fetch_before_work, by_kind, reads_all, repairs_all}
 use Rattle.second_half_laws.proofs.Walk.{IsGift, IsSilent, Passed, Goes, Went, Walked, walked}
 use Rattle.second_half_laws.proofs.Passing.{Later, later_same, passed_later, passed_place, list_before, list_now}
 
@@ -13,6 +13,11 @@ all_three : (k i p o t s : ℕ) → k ≡ i → p ≡ o → t ≡ s → (((k == 
 all_three k i p o t s x y z = and_from _ _ (and_from (k == i) (p == o) (eq-eqb k i x) (eq-eqb p o y))
     (eq-eqb t s z)
 
+-- what does not fit is further on
+later : {X Y : Type 0} {b : Bool} → (X → b ≡ true) → b ≡ false → X ⊎ Y → Y
+later fits misfit (inl x) = absurd (false≢true (sym misfit ∙ fits x))
+later fits misfit (inr y) = y
+
 -- where a fetch of a block was given, the newest such fetch is among what was given
 pub given_block : (given : List Given) (i o s : ℕ) (block : Option (List ℕ)) →
     In (Fetched i o s block) given → In (Fetched i o s (block_given given o s i)) given
@@ -21,23 +26,12 @@ given_block (Fetched k p t c ∷ more) i o s block h = elim (cases_Bool (((k == 
   | inl b ↦ (let u = and_parts ((k == i) && (p == o)) (t == s) b in let v = and_parts (k == i) (p == o) u.0 in
       let e : block_given (Fetched k p t c ∷ more) o s i ≡ c = cc in let x = eqb-true k i v.0 in
       let y = eqb-true p o v.1 in let z = eqb-true t s u.1 in
-      inl (let f : Fetched i o s (block_given (Fetched k p t c ∷ more) o s i) ≡ Fetched k p t c = cc in f))
-  | inr b ↦ (let e : block_given (Fetched k p t c ∷ more) o s i ≡ block_given more o s i = cc in
-      inr (subst (λ x. In (Fetched i o s x) more) (sym e) (given_block more i o s block (later h b))))
+      inl (cc))
+  | inr b ↦ (inr (subst (λ x. In (Fetched i o s x) more) (sym cc)
+      (given_block more i o s block (later (λ e. all_three k i p o t s (cc) (cc) (cc)) b h))))
 ]
-  where
-    later : (Fetched i o s block ≡ Fetched k p t c) ⊎ In (Fetched i o s block) more →
-        (((k == i) && (p == o)) && (t == s)) ≡ false → In (Fetched i o s block) more
-    later (inr g) b = g
-    later (inl e) b = absurd
-        (false≢true (sym b ∙ all_three k i p o t s (let x : k ≡ i = cc in x) (let y : p ≡ o = cc in y)
-        (let z : t ≡ s = cc in z)))
-given_block (Answered k p r c ∷ more) i o s block (inl e) =
-    absurd (let f : Fetched i o s block ≡ Answered k p r c = e in cc)
-given_block (Answered k p r c ∷ more) i o s block (inr h) = inr (given_block more i o s block h)
-given_block (Worked p t c ∷ more) i o s block (inl e) =
-    absurd (let f : Fetched i o s block ≡ Worked p t c = e in cc)
-given_block (Worked p t c ∷ more) i o s block (inr h) = inr (given_block more i o s block h)
+given_block (_ ∷ more) i o s block (inl e) = absurd (cc e)
+given_block (_ ∷ more) i o s block (inr h) = inr (given_block more i o s block h)
 
 -- where an answer was given, the newest such answer is among what was given
 pub given_answer : (given : List Given) (i o s : ℕ) (symbol : Option ℕ) → In (Answered i o s symbol) given →
@@ -49,24 +43,12 @@ given_answer (Answered k p t c ∷ more) i o s symbol h =
           let v = and_parts (k == i) (p == o) u.0 in
           let e : answer_given (Answered k p t c ∷ more) o s i ≡ c = cc in let x = eqb-true k i v.0 in
           let y = eqb-true p o v.1 in let z = eqb-true t s u.1 in
-          inl (let f : Answered i o s (answer_given (Answered k p t c ∷ more) o s i) ≡ Answered k p t c =
-          cc in f))
-      | inr b ↦ (let e : answer_given (Answered k p t c ∷ more) o s i ≡ answer_given more o s i = cc in
-          inr (subst (λ x. In (Answered i o s x) more) (sym e) (given_answer more i o s symbol (later h b))))
+          inl (cc))
+      | inr b ↦ (inr (subst (λ x. In (Answered i o s x) more) (sym cc)
+          (given_answer more i o s symbol (later (λ e. all_three k i p o t s (cc) (cc) (cc)) b h))))
     ]
-  where
-    later : (Answered i o s symbol ≡ Answered k p t c) ⊎ In (Answered i o s symbol) more →
-        (((k == i) && (p == o)) && (t == s)) ≡ false → In (Answered i o s symbol) more
-    later (inr g) b = g
-    later (inl e) b = absurd
-        (false≢true (sym b ∙ all_three k i p o t s (let x : k ≡ i = cc in x) (let y : p ≡ o = cc in y)
-        (let z : t ≡ s = cc in z)))
-given_answer (Fetched k p r c ∷ more) i o s symbol (inl e) =
-    absurd (let f : Answered i o s symbol ≡ Fetched k p r c = e in cc)
-given_answer (Fetched k p r c ∷ more) i o s symbol (inr h) = inr (given_answer more i o s symbol h)
-given_answer (Worked p t c ∷ more) i o s symbol (inl e) =
-    absurd (let f : Answered i o s symbol ≡ Worked p t c = e in cc)
-given_answer (Worked p t c ∷ more) i o s symbol (inr h) = inr (given_answer more i o s symbol h)
+given_answer (_ ∷ more) i o s symbol (inl e) = absurd (cc e)
+given_answer (_ ∷ more) i o s symbol (inr h) = inr (given_answer more i o s symbol h)
 
 -- where the symbols of a stripe were given, the newest such symbols are among what was given
 pub given_symbols : (given : List Given) (o s : ℕ) (symbols : List ℕ) → In (Worked o s symbols) given →
@@ -75,27 +57,12 @@ given_symbols [] o s symbols h = absurd h
 given_symbols (Worked p t c ∷ more) o s symbols h = elim (cases_Bool ((p == o) && (t == s))) [
   | inl b ↦ (let v = and_parts (p == o) (t == s) b in let e : symbols_given (Worked p t c ∷ more) o s ≡ c =
       cc in let y = eqb-true p o v.0 in let z = eqb-true t s v.1 in
-      inl (let f : Worked o s (symbols_given (Worked p t c ∷ more) o s) ≡ Worked p t c = cc in f))
-  | inr b ↦ (let e : symbols_given (Worked p t c ∷ more) o s ≡ symbols_given more o s = cc in
-      inr (subst (λ x. In (Worked o s x) more) (sym e) (given_symbols more o s symbols (later h b))))
+      inl (cc))
+  | inr b ↦ (inr (subst (λ x. In (Worked o s x) more) (sym cc) (given_symbols more o s symbols
+      (later (λ e. and_from (p == o) (t == s) (eq-eqb p o (cc)) (eq-eqb t s (cc))) b h))))
 ]
-  where
-    later : (Worked o s symbols ≡ Worked p t c) ⊎ In (Worked o s symbols) more →
-        ((p == o) && (t == s)) ≡ false → In (Worked o s symbols) more
-    later (inr g) b = g
-    later (inl e) b = absurd
-        (false≢true (sym b ∙ and_from (p == o) (t == s) (eq-eqb p o (let y : p ≡ o = cc in y))
-        (eq-eqb t s (let z : t ≡ s = cc in z))))
-given_symbols (Fetched k p r c ∷ more) o s symbols (inl e) =
-    absurd (let f : Worked o s symbols ≡ Fetched k p r c = e in cc)
-given_symbols (Fetched k p r c ∷ more) o s symbols (inr h) = inr (given_symbols more o s symbols h)
-given_symbols (Answered k p r c ∷ more) o s symbols (inl e) =
-    absurd (let f : Worked o s symbols ≡ Answered k p r c = e in cc)
-given_symbols (Answered k p r c ∷ more) o s symbols (inr h) = inr (given_symbols more o s symbols h)
-
-in_more : (xs ys : List Given) (g : Given) → In g ys → In g (xs ++ ys)
-in_more [] ys g h = h
-in_more (x ∷ xs) ys g h = inr (in_more xs ys g h)
+given_symbols (_ ∷ more) o s symbols (inl e) = absurd (cc e)
+given_symbols (_ ∷ more) o s symbols (inr h) = inr (given_symbols more o s symbols h)
 
 -- ---- what an action gave is among what was given
 
@@ -108,11 +75,11 @@ HasGift action given = Unit {0}
 gift_more : (action : Action) (more given now_given : List Given) → now_given ≡ more ++ given →
     HasGift action given → HasGift action now_given
 gift_more (Fetch i o s) more given now_given is h =
-    (h.0, subst (In (Fetched i o s h.0)) (sym is) (in_more more given (Fetched i o s h.0) h.1))
+    (h.0, (rw (← is) at (in_right more given (Fetched i o s h.0) h.1)))
 gift_more (Ask i o r) more given now_given is h =
-    (h.0, subst (In (Answered i o r h.0)) (sym is) (in_more more given (Answered i o r h.0) h.1))
+    (h.0, (rw (← is) at (in_right more given (Answered i o r h.0) h.1)))
 gift_more (Work o s) more given now_given is h =
-    (h.0, subst (In (Worked o s h.0)) (sym is) (in_more more given (Worked o s h.0) h.1))
+    (h.0, (rw (← is) at (in_right more given (Worked o s h.0) h.1)))
 gift_more action more given now_given is h = tt
 
 gift_now : (old : State) (x : Job) (action : Action) (new : State) (gift : Given) →
@@ -124,10 +91,7 @@ gift_now old x action new gift h = absurd h
 
 silent_gift : (action : Action) (given : List Given) → IsSilent action → HasGift action given
 silent_gift (Store i o s) given h = tt
-silent_gift (Remove i o) given h = tt
-silent_gift SyncBody given h = tt
-silent_gift WriteGate given h = tt
-silent_gift action given h = absurd h
+silent_gift action given h = search (tt, absurd)
 
 passed_gift : (old : State) (x : Job) (action : Action) (new : State) (j : Job) → Passed old x action new j →
     HasGift action j.given
@@ -147,8 +111,8 @@ earlier_on maker x j l e = record {
   begun = e.begun ∙ l.begun;
   pinned = e.pinned ∙ l.pinned;
   flagged = e.flagged ∙ l.flagged;
-  subject = λ late. e.subject late ∙ l.subject (let p = e.place in omega (arith, p, late));
-  place = (let p = e.place in let q = l.place in omega (arith, p, q));
+  subject = λ late. e.subject late ∙ l.subject (omega (arith, e.place, late));
+  place = omega (arith, e.place, l.place);
 }
 
 -- what a job has made it has made also with one more event, and further on
@@ -159,7 +123,7 @@ made_on start m ms x j action l c = record {
   moment = c.moment;
   before = c.before;
   split = ap (λ l. m ∷ l) c.split;
-  since = (let s = c.since in let b = l.begun in omega (arith, s, b));
+  since = omega (arith, c.since, l.begun);
   maker = c.maker;
   same = earlier_on c.maker x j l c.same;
   makes = c.makes;
@@ -178,18 +142,17 @@ fetched_on start m ms x j i o s block l c = record {
   moment = c.moment;
   before = c.before;
   split = ap (λ l. m ∷ l) c.split;
-  since = (let s = c.since in let b = l.begun in omega (arith, s, b));
+  since = omega (arith, c.since, l.begun);
   maker = c.maker;
   same = earlier_on c.maker x j l c.same;
   makes = c.makes;
-  held = subst (λ fs. IsHeldThen (now start c.before) c.moment.state fs i o s block) l.pinned c.held;
+  held = rw l.pinned at c.held;
 }
 
 -- what is honest hangs on the setup, the audit's number and its files
 abbrev Honest : Setup → ℕ → List Pinned → ℕ → ℕ → Option Held → Option ℕ → Type 0
-Honest t subject pinned object round held symbol =
-    AskGives (honest_answer
-    (challenge_of (object_of (profiled t (pinned_profile t.profile pinned object)) object)
+Honest t subject pinned object round held symbol = AskGives
+    (honest_answer (challenge_of (object_of (profiled t (pinned_profile t.profile pinned object)) object)
     (pinned_size pinned object) t.picks subject round)) object held symbol
 
 answered_on : (w v : State) (x j : Job) (old new : State) (i o r : ℕ) (symbol : Option ℕ) →
@@ -197,8 +160,7 @@ answered_on : (w v : State) (x j : Job) (old new : State) (i o r : ℕ) (symbol 
     IsAnsweredThen w x old new i o r symbol → IsAnsweredThen v j old new i o r symbol
 answered_on w v x j old new i o r symbol setup subject pinned (inl g) =
     inl (subst (λ t. Honest t j.subject j.pinned o r (old.providers i).held symbol) (sym setup)
-    (subst (λ n. Honest (setup_in w) n j.pinned o r (old.providers i).held symbol) subject
-    (subst (λ p. Honest (setup_in w) x.subject p o r (old.providers i).held symbol) pinned g)))
+    (rw subject at (subst (λ p. Honest (setup_in w) x.subject p o r (old.providers i).held symbol) pinned g)))
 answered_on w v x j old new i o r symbol setup subject pinned (inr f) = inr f
 
 -- no ask is among the first four actions of a job
@@ -206,35 +168,24 @@ abbrev NoAsk : Action → Type 0
 NoAsk (Ask i o r) = ⊥
 NoAsk action = Unit {0}
 
+behind_moves : (more : List Action) (p i o r : ℕ) →
+    slice_get (append_actions ++ more) p ≡ Some (Ask i o r) → 4 ≤ p
+behind_moves more p i o r h = elim (split_get append_actions more p (Ask i o r) h) [
+  | inl a ↦ absurd (each_get NoAsk append_actions p (Ask i o r) (tt, (tt, (tt, (tt, tt)))) a.1)
+  | inr b ↦ b.0
+]
+
 ask_late_by : (t : Setup) (job : Job) (kind : Kind) (p i o r : ℕ) →
     slice_get (actions_by t job kind) p ≡ Some (Ask i o r) → 4 ≤ p
-ask_late_by t job (PutJob name bytes) p i o r h =
-    absurd (each_get NoAsk (actions_by t job (PutJob name bytes)) p (Ask i o r)
-    (moves_all NoAsk (store_actions t job bytes ++ (append_actions ++ (remove_actions t job ++ End ∷ [])))
-    (tt, (tt, (tt, (tt, tt))))
-    (each_append NoAsk (store_actions t job bytes) (append_actions ++ (remove_actions t job ++ End ∷ []))
-    (stores_all t job bytes NoAsk (λ j st. tt))
-    (moves_all NoAsk (remove_actions t job ++ End ∷ []) (tt, (tt, (tt, (tt, tt))))
-    (tail_all t job NoAsk (λ j st. tt) tt)))) h)
-ask_late_by t job (GetJob name) p i o r h =
-    absurd (each_get NoAsk (read_actions t job.pinned ++ End ∷ []) p (Ask i o r)
-    (each_append NoAsk (read_actions t job.pinned) (End ∷ [])
-    (reads_all t job.pinned NoAsk (λ j o2 st. tt) (λ o2 st. tt)) (tt, tt)) h)
-ask_late_by t job (DropJob name) p i o r h =
-    absurd (each_get NoAsk (actions_by t job (DropJob name)) p (Ask i o r)
-    (moves_all NoAsk (remove_actions t job ++ End ∷ []) (tt, (tt, (tt, (tt, tt))))
-    (tail_all t job NoAsk (λ j st. tt) tt)) h)
-ask_late_by t job AuditJob p i o r h =
-    elim (split_get append_actions (ask_actions t job ++ (append_actions ++ End ∷ [])) p (Ask i o r) h) [
-      | inl a ↦ absurd (each_get NoAsk append_actions p (Ask i o r) (tt, (tt, (tt, (tt, tt)))) a.1)
-      | inr b ↦ b.0
-    ]
+ask_late_by t job (GetJob name) p i o r h = absurd (each_get NoAsk (read_actions t job.pinned ++ End ∷ []) p
+    (Ask i o r) (each_append NoAsk (read_actions t job.pinned) (End ∷ [])
+    (reads_all t job NoAsk (λ f st in_f l. (λ j. tt, tt))) (tt, tt)) h)
 ask_late_by t job RepairJob p i o r h =
     absurd (each_get NoAsk (repair_actions t job ++ (append_actions ++ End ∷ [])) p (Ask i o r)
     (each_append NoAsk (repair_actions t job) (append_actions ++ End ∷ [])
     (repairs_all t job NoAsk (λ f st in_f l. (λ j. tt, tt, λ j. tt))) (tt, (tt, (tt, (tt, (tt, tt)))))) h)
-ask_late_by t job UpgradeJob p i o r h =
-    absurd (each_get NoAsk (append_actions ++ End ∷ []) p (Ask i o r) (tt, (tt, (tt, (tt, (tt, tt))))) h)
+ask_late_by t job UpgradeJob p i o r h = behind_moves (End ∷ []) p i o r h
+ask_late_by t job kind p i o r h = behind_moves _ p i o r h
 
 ask_late : (w : State) (job : Job) (i o r : ℕ) → next_action w job ≡ Some (Ask i o r) → 4 ≤ job.place
 ask_late w job i o r h = ask_late_by (setup_in w) job job.kind job.place i o r
@@ -248,13 +199,13 @@ asked_on start m ms x j i o r symbol setup l c = record {
   moment = c.moment;
   before = c.before;
   split = ap (λ l. m ∷ l) c.split;
-  since = (let s = c.since in let b = l.begun in omega (arith, s, b));
+  since = omega (arith, c.since, l.begun);
   maker = c.maker;
   same = earlier_on c.maker x j l c.same;
   makes = c.makes;
-  answered = (let late = ask_late (now start c.before) c.maker i o r c.makes.next in let p = c.same.place in
-      answered_on (now start ms) m.state x j (now start c.before) c.moment.state i o r symbol setup
-      (l.subject (omega (arith, late, p))) l.pinned c.answered);
+  answered = answered_on (now start ms) m.state x j (now start c.before) c.moment.state i o r symbol setup
+      (l.subject (omega (arith, ask_late (now start c.before) c.maker i o r c.makes.next, c.same.place)))
+      l.pinned c.answered;
 }
 
 -- blocks open to symbols of an object among these files
@@ -267,10 +218,8 @@ opened_on : (start : State) (m : Moment) (ms : List Moment) (x j : Job) (o s : �
     WasOpened start (m ∷ ms) j o s symbols
 opened_on start m ms x j o s symbols setup l c = record {
   blocks = c.blocks;
-  opens = subst (λ t. Gives t j.pinned o s c.blocks symbols) (sym setup)
-      (subst (λ fs. Gives (setup_in (now start ms)) fs o s c.blocks symbols) l.pinned c.opens);
-  fetched = λ i k. fetched_on start m ms x j i o s (block_at c.blocks i) l
-      (c.fetched i (subst (λ (t : Setup). i < t.n) setup k));
+  opens = subst (λ t. Gives t j.pinned o s c.blocks symbols) (sym setup) (rw l.pinned at c.opens);
+  fetched = λ i k. fetched_on start m ms x j i o s (block_at c.blocks i) l (c.fetched i (rw setup at k));
 }
 
 -- ---- facts of runs
@@ -304,7 +253,7 @@ pub given_at : (start : State) (ms : List Moment) → Facts start ms → (k : �
     In (Fetched i o s (block_given j.given o s i)) j.given
 given_at start ms F k j p i o s h l at n =
     (let q = fetch_before_work (setup_in (now start ms)) j p i o s at n in
-    let r = F.made k j q.0 (Fetch i o s) h (let e = q.1 in omega (arith, e, l)) q.2 in
+    let r = F.made k j q.0 (Fetch i o s) h (omega (arith, q.1, l)) q.2 in
     given_block j.given i o s r.1.0 r.1.1)
 
 -- a job at the work on a stripe, or past it, was given each provider's block by a fetch
@@ -322,61 +271,42 @@ module _ (limit : ℕ) (start : State) (m : Moment) (ms : List Moment) (A : All 
   abbrev w : State
   w = now start ms
 
-  begun_step : (k : ℕ) (j : Job) → job_of m.state.jobs k ≡ Some j → j.begun < suc (length ms)
-  begun_step k j h = elim (W.job k j h) [
-    | Went.kept r apart ↦ (let l = F.begun k j r in omega (arith, l))
-    | Went.begun kind wish is k_is rec ↦ (let e : j.begun ≡ length ms = cc in omega (arith, e))
-    | Went.went x action g ↦ (let l = F.begun k x g.runs in
-        let e = (passed_later w x action m.state j g.passed).begun in omega (arith, l, e))
-  ]
-
   -- this job made this action now
   made_now : (k : ℕ) (x j : Job) (action : Action) → Goes w m.event m.outcome m.state k x action j →
       job_of m.state.jobs k ≡ Some j → WasMade start (m ∷ ms) j action
   made_now k x j action g h = (let l = passed_later w x action m.state j g.passed in
-      let b = F.begun k x g.runs in let e = l.begun in
       record {
         later = [];
         moment = m;
         before = ms;
         split = refl;
-        since = omega (arith, b, e);
+        since = omega (arith, F.begun k x g.runs, l.begun);
         maker = x;
-        same = earlier_now x j action g.passed;
-        makes = makes_now k x j action g;
+        same = record {
+          number = l.number;
+          kind = l.kind;
+          profile = l.profile;
+          begun = l.begun;
+          pinned = l.pinned;
+          flagged = l.flagged;
+          subject = l.subject;
+          place = omega (arith, passed_place w x action m.state j g.passed);
+        };
+        makes = record {
+          event = cc;
+          is_open = g.is_open;
+          unbarred = g.unbarred;
+          none_alone = g.none_alone;
+          runs = cc;
+          next = g.next;
+          unheld = g.unheld;
+        };
         went_on = g.outcome;
         after = j;
         after_is = cc;
         given = [];
         given_is = refl;
       })
-    where
-      earlier_now : (x j : Job) (action : Action) → Passed w x action m.state j → IsEarlier x j
-      earlier_now x j action passed = (let l = passed_later w x action m.state j passed in
-          let p = passed_place w x action m.state j passed in
-          record {
-            number = l.number;
-            kind = l.kind;
-            profile = l.profile;
-            begun = l.begun;
-            pinned = l.pinned;
-            flagged = l.flagged;
-            subject = l.subject;
-            place = omega (arith, p);
-          })
-
-      makes_now : (k : ℕ) (x j : Job) (action : Action) → Goes w m.event m.outcome m.state k x action j →
-          Makes w m x action
-      makes_now k x j action g =
-          record {
-            event = cc;
-            is_open = g.is_open;
-            unbarred = g.unbarred;
-            none_alone = g.none_alone;
-            runs = cc;
-            next = g.next;
-            unheld = g.unheld;
-          }
 
   made_step : (k : ℕ) (j : Job) (p : ℕ) (action : Action) → job_of m.state.jobs k ≡ Some j → p < j.place →
       slice_get (actions_of (setup_in m.state) j) p ≡ Some action →
@@ -403,7 +333,7 @@ module _ (limit : ℕ) (start : State) (m : Moment) (ms : List Moment) (A : All 
             ))
             | inr e ↦ (let here : p ≡ x.place = omega (arith, place, l, e) in
                 let same : act ≡ action = same_value _ act action (list_now w x act m.state j g.next g.passed)
-                (cc) in subst (λ (a : Action). WasMade start (m ∷ ms) j a × HasGift a j.given) same
+                (cc) in subst (λ a. WasMade start (m ∷ ms) j a × HasGift a j.given) same
                 (made_now k x j act g h, passed_gift w x act m.state j g.passed))
           ])
 
@@ -449,7 +379,7 @@ module _ (limit : ℕ) (start : State) (m : Moment) (ms : List Moment) (A : All 
         opens = subst (λ t. Gives t j.pinned o s (blocks_given x.given (setup_in w).n o s) symbols)
             (sym setup) (subst (λ fs. Gives (setup_in w) fs o s (blocks_given x.given (setup_in w).n o s)
             symbols) l.pinned gives);
-        fetched = λ i n. (let n_old : i < (setup_in w).n = subst (λ (t : Setup). i < t.n) setup n in
+        fetched = λ i n. (let n_old : i < (setup_in w).n = subst (λ t. i < t.n) setup n in
             let c = fetched_at start ms F k x x.place i o s g.runs (omega arith) at n_old in
             subst (WasFetched start (m ∷ ms) j i o s) (sym (block_at-given x.given (setup_in w).n o s i
             n_old)) (fetched_on start m ms x j i o s (block_given x.given o s i) l c));
@@ -487,7 +417,16 @@ module _ (limit : ℕ) (start : State) (m : Moment) (ms : List Moment) (A : All 
 
   -- an event keeps it that jobs made what is before their place, and that their gifts came of it
   pub step_facts : Facts start (m ∷ ms)
-  step_facts = record { begun = begun_step; made = made_step; came = came_step }
+  step_facts = record {
+    begun = λ k j h. elim (W.job k j h) [
+      | Went.kept r apart ↦ (let l = F.begun k j r in omega (arith, l))
+      | Went.begun kind wish is k_is rec ↦ (let e : j.begun ≡ length ms = cc in omega (arith, e))
+      | Went.went x action g ↦ (let l = F.begun k x g.runs in
+          let e = (passed_later w x action m.state j g.passed).begun in omega (arith, l, e))
+    ];
+    made = made_step;
+    came = came_step;
+  }
 
 -- at a start no job runs, so it holds of all that they made and were given
 pub start_facts : (start : State) → IsStart start → Facts start []
@@ -501,8 +440,7 @@ start_facts start clean = record {
 pub facts : (limit : ℕ) (start : State) → IsStart start → (ms : List Moment) → IsRun limit start ms →
     Facts start ms
 facts limit start clean [] run = start_facts start clean
-facts limit start clean (m ∷ ms) run =
-    (let A = all limit start clean ms run.2 in
+facts limit start clean (m ∷ ms) run = (let A = all limit start clean ms run.2 in
     step_facts limit start m ms A (facts limit start clean ms run.2)
     (changes limit (length ms) (now start ms) m.event m.outcome m.state A.numbers.idle run.1)
     (walked (length ms) (now start ms) limit m.event m.outcome m.state A.numbers.idle.lone run.1))

@@ -28,10 +28,9 @@ audit_past w job kind h = elim (split_get append_actions
 -- a repair that ends has made each of its stores
 repair_past : (w : State) (job : Job) → job.kind ≡ RepairJob → next_action w job ≡ Some End →
     (p i o s : ℕ) → slice_get (actions_of (setup_in w) job) p ≡ Some (Store i o s) → p < job.place
-repair_past w job kind h p i o s at =
-    (let late = move_behind (setup_in w) job job.place End kind
+repair_past w job kind h p i o s at = (let late = move_behind (setup_in w) job job.place End kind
     (of_kind (setup_in w) job RepairJob job.place End kind listed) (λ z. z) in
-    let early = store_within (setup_in w) job p i o s kind at in omega arith)
+    omega (arith, store_within (setup_in w) job p i o s kind at))
   where
     listed : slice_get (actions_by (setup_in w) job RepairJob) job.place ≡ Some End
     listed = cc (next_is_by w job)
@@ -44,15 +43,14 @@ audits_stay : (limit : ℕ) (start : State) → IsStart start → (later ms : Li
     ((now start (later ++ ms)).audits number ≡ (now start ms).audits number) ×
     (number < next_audit (now start (later ++ ms)).records)
 audits_stay limit start clean [] ms number run below = (refl, below)
-audits_stay limit start clean (m ∷ later) ms number run below =
-    (let hs = later ++ ms in
+audits_stay limit start clean (m ∷ later) ms number run below = (let hs = later ++ ms in
     let p = audits_stay limit start clean later ms number run.2 below in
-    let A = all limit start clean hs run.2 in
-    let U = num.facts audits limit start clean hs run.2 in
-    let X = changes limit (length hs) (now start hs) m.event m.outcome m.state A.numbers.idle run.1 in
-    let grows = next_of_records audits (now start hs) m.state U.written X.records in (
+    let X = changes limit (length hs) (now start hs) m.event m.outcome m.state
+    (all limit start clean hs run.2).numbers.idle run.1 in
+    let grows = next_of_records audits (now start hs) m.state (num.facts audits limit start clean hs
+    run.2).written X.records in (
       audits_below (turns (now start hs) limit (length hs) m.event m.outcome m.state run.1) number p.1 ∙ p.0,
-      (let l = p.1 in omega arith),
+      (omega (arith, p.1)),
     ))
 
 -- ---- the mark
@@ -78,8 +76,11 @@ at_end limit start ms k job h runs kind next_is = record {
   clear = λ q f j s in_f l b bad.
       elim ((in_calm limit start ms h).audited.repair k job runs kind q f j s in_f l b bad) [
         | inl replaced ↦ inl replaced
-        | inr x ↦ absurd (let z = repair_past (now start ms) job kind next_is x.1.0 j f.id s x.1.2 in
-            let low = x.1.1 in omega (arith, z, low))
+        | inr x ↦ absurd (omega (
+          arith,
+          repair_past (now start ms) job kind next_is x.1.0 j f.id s x.1.2,
+          x.1.1,
+        ))
       ];
 }
 

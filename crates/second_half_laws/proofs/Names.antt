@@ -1,5 +1,5 @@
 -- Names in effect are names of the grammar, so a get of one is not refused for its name.
-use Rattle.second_half_laws.proofs.Words.{true, cond, refl, sym, subst, ◌∙◌, inl, inr, IsTrue, not, cases_Bool, false≢true, Record, SetUp, PutStart, PutDone, Drop, AuditStart, AuditDone, RepairDone, PutDoneIn, Version, Resume, InEffect, RepairDue, is_name, File, version_of, started_as, is_start_of, is_same_name, file_of, same-eq, Kind, PutJob, GetJob, AuditJob, Job, job_of, Refusal, Event, Begin, Outcome, Refused, State, Append, Doubt, AreFirst, IsStart, file_in, refusal_of_begin, begin_refusal, Begins, Writes, is_first_append, Happens, Moment, now, IsRun, IsGetRefusal, cond_true, found_none, by_version, Job_is, Append_is, Records_is, Doubt_is, Changes, changes, objects}
+use Rattle.second_half_laws.proofs.Words.{true, cond, refl, sym, subst, ◌∙◌, inl, inr, IsTrue, not, cases_Bool, false≢true, Record, PutStart, PutDone, Drop, PutDoneIn, InEffect, is_name, File, version_of, started_as, is_start_of, is_same_name, file_of, same-eq, Kind, PutJob, GetJob, AuditJob, Job, job_of, Refusal, Event, Begin, Outcome, Refused, State, Append, Doubt, AreFirst, IsStart, file_in, refusal_of_begin, begin_refusal, Writes, is_first_append, Happens, Moment, now, IsRun, IsGetRefusal, cond_true, found_none, by_version, Job_is, Append_is, Records_is, Doubt_is, Changes, changes, objects}
 use Rattle.std.proofs.Common.{◌≡◌, ℕ, ◌==◌, Bool, false, List, [], ◌∷◌, length, Option, Some, None}
 use Rattle.machine_defs.specs.Refusals as refusal
 use Rattle.machine_defs.proofs.Sights.{stored-file}
@@ -23,7 +23,6 @@ IsNamedJob kind = Unit {0}
 started_named : (rs : List Record) (id : ℕ) (name : List ℕ) → AreNamed rs → started_as rs id ≡ Some name →
     is_name name ≡ true
 started_named [] id name named h = let e : None ≡ Some name = h in cc
-started_named (SetUp s ∷ rs) id name named h = started_named rs id name named.1 h
 started_named (PutStart k n ∷ rs) id name named h = elim (cases_Bool (k == id)) [
   | inl t ↦ (let e : n ≡ name = cc in cc)
   | inr f ↦ started_named rs id name named.1 (cc)
@@ -32,18 +31,11 @@ started_named (PutDone k size ∷ rs) id name named h = elim (cases_Bool (k == i
   | inl t ↦ (let e : None ≡ Some name = cc in cc)
   | inr f ↦ started_named rs id name named.1 (cc)
 ]
-started_named (Drop n ∷ rs) id name named h = started_named rs id name named.1 h
-started_named (AuditStart number ∷ rs) id name named h = started_named rs id name named.1 h
-started_named (AuditDone number undecided counts ∷ rs) id name named h = started_named rs id name named.1 h
-started_named (RepairDone number ∷ rs) id name named h = started_named rs id name named.1 h
 started_named (PutDoneIn k size profile ∷ rs) id name named h = elim (cases_Bool (k == id)) [
   | inl t ↦ (let e : None ≡ Some name = cc in cc)
   | inr f ↦ started_named rs id name named.1 (cc)
 ]
-started_named (Version ∷ rs) id name named h = started_named rs id name named.1 h
-started_named (Resume next audit ∷ rs) id name named h = started_named rs id name named.1 h
-started_named (InEffect k size profile kept ∷ rs) id name named h = started_named rs id name named.1 h
-started_named (RepairDue number counts ∷ rs) id name named h = started_named rs id name named.1 h
+started_named (_ ∷ rs) id name named h = started_named rs id name named.1 h
 
 start_named : (o : Option (List ℕ)) (name : List ℕ) → is_start_of name o ≡ true →
     ((x : List ℕ) → o ≡ Some x → is_name x ≡ true) → is_name name ≡ true
@@ -53,8 +45,6 @@ start_named (Some x) name h f = cc (same-eq x name h, f x refl)
 file_named : (rs : List Record) (name : List ℕ) (file : File) → AreNamed rs → file_of rs name ≡ Some file →
     is_name name ≡ true
 file_named [] name file named h = let e : None ≡ Some file = h in cc
-file_named (SetUp s ∷ rs) name file named h = file_named rs name file named.1 h
-file_named (PutStart k n ∷ rs) name file named h = file_named rs name file named.1 h
 file_named (PutDone k size ∷ rs) name file named h = elim (cases_Bool (is_start_of name (started_as rs k))) [
   | inl t ↦ start_named (started_as rs k) name t (λ x e. started_named rs k x named.1 e)
   | inr f ↦ file_named rs name file named.1 (cc)
@@ -63,22 +53,17 @@ file_named (Drop n ∷ rs) name file named h = elim (cases_Bool (is_same_name n 
   | inl t ↦ (let e : None ≡ Some file = cc in cc)
   | inr f ↦ file_named rs name file named.1 (cc)
 ]
-file_named (AuditStart number ∷ rs) name file named h = file_named rs name file named.1 h
-file_named (AuditDone number undecided counts ∷ rs) name file named h = file_named rs name file named.1 h
-file_named (RepairDone number ∷ rs) name file named h = file_named rs name file named.1 h
 file_named (PutDoneIn k size profile ∷ rs) name file named h =
     elim (cases_Bool (is_start_of name (started_as rs k))) [
       | inl t ↦ start_named (started_as rs k) name t (λ x e. started_named rs k x named.1 e)
       | inr f ↦ file_named rs name file named.1 (cc)
     ]
-file_named (Version ∷ rs) name file named h = file_named rs name file named.1 h
-file_named (Resume next audit ∷ rs) name file named h = file_named rs name file named.1 h
 file_named (InEffect k size profile kept ∷ rs) name file named h =
     elim (cases_Bool (is_same_name kept name)) [
       | inl t ↦ cc (same-eq kept name t)
       | inr f ↦ file_named rs name file named.1 (cc)
     ]
-file_named (RepairDue number counts ∷ rs) name file named h = file_named rs name file named.1 h
+file_named (_ ∷ rs) name file named h = file_named rs name file named.1 h
 
 writes_named : (w : State) (job : Job) (kind : Kind) (entry : Record) → IsNamedJob kind →
     Writes w job kind entry → IsNamed entry
@@ -96,13 +81,12 @@ writes_named w job kind entry named h = cc
 
 -- a refusal that comes is not the none of a begin
 some_none : {X : Type 0} (o : Option X) (x : X) → o ≡ None → o ≡ Some x → ⊥
-some_none o x a b = (let e : None ≡ Some x = sym a ∙ b in cc)
+some_none o x a b = cc (sym a ∙ b)
 
 -- a begun put has a name
 begun_named : (limit : ℕ) (w : State) (kind : Kind) (wish : Option ℕ) →
     refusal_of_begin limit w kind wish ≡ None → IsNamedJob kind
-begun_named limit w (PutJob name bytes) wish h =
-    go _ _ _ _ h
+begun_named limit w (PutJob name bytes) wish h = go _ _ _ _ h
   where
     go : (barred busy ok : Bool) (rest : Option Refusal) →
         cond barred (Some refusal.MustReopen)
@@ -166,9 +150,8 @@ facts limit start [] clean run = record {
   append = λ a h. absurd (some_none start.append a clean.append h);
   doubt = λ d h. absurd (some_none start.doubt d clean.doubt h);
 }
-facts limit start (m ∷ ms) clean run =
-    step_facts limit (length ms) (now start ms) m.event m.outcome m.state (facts limit start ms clean run.2)
-    (changes limit (length ms) (now start ms) m.event m.outcome m.state
+facts limit start (m ∷ ms) clean run = step_facts limit (length ms) (now start ms) m.event m.outcome m.state
+    (facts limit start ms clean run.2) (changes limit (length ms) (now start ms) m.event m.outcome m.state
     (num.facts objects limit start clean ms run.2).idle run.1)
 
 -- a name under which a file is in effect is a name of the grammar
@@ -180,17 +163,16 @@ stored_named limit start ms name file clean run h =
 -- why a get of a name that is a name and in effect is refused
 get_refusal : (limit : ℕ) (w : State) (name : List ℕ) (file : File) (why : Refusal) → is_name name ≡ true →
     file_in w name ≡ Some file → begin_refusal limit w (GetJob name) ≡ Some why → IsGetRefusal why
-get_refusal limit w name file why named h e =
-    go _ _ _ _ named (cc (stored-file w name)) e
+get_refusal limit w name file why named h e = go _ _ _ _ named (cc (stored-file w name)) e
   where
     go : (barred busy ok there : Bool) → ok ≡ true → there ≡ true →
         cond barred (Some refusal.MustReopen)
         (cond busy (Some refusal.Busy)
         (cond (not ok) (Some refusal.BadName) (cond (not there) (Some refusal.NoSuchName) None)))
         ≡ Some why → IsGetRefusal why
-    go true busy ok there a b c = inl (let d : refusal.MustReopen ≡ why = cc in sym d)
-    go false true ok there a b c = inr (inl (let d : refusal.Busy ≡ why = cc in sym d))
-    go false false true true a b c = (let d : None ≡ Some why = c in cc)
+    go true busy ok there a b c = inl (sym cc)
+    go false true ok there a b c = inr (inl (sym cc))
+    go false false true true a b c = cc c
     go false false true false a b c = absurd (false≢true b)
     go false false false there a b c = absurd (false≢true a)
 
@@ -199,10 +181,8 @@ pub begins_stored : (limit : ℕ) (start : State) (m : Moment) (ms : List Moment
     (why : Refusal) → IsStart start → IsRun limit start (m ∷ ms) → m.event ≡ Begin (GetJob name) →
     m.outcome ≡ Refused why → file_in (now start ms) name ≡ Some file → IsGetRefusal why
 begins_stored limit start m ms name file why clean run event outcome h =
-    (let g : Begins limit (length ms) (now start ms) (GetJob name) (Refused why) m.state =
-    subst (λ (x : Event). Happens limit (length ms) (now start ms) x (Refused why) m.state) event
-    (subst (λ (r : Outcome). Happens limit (length ms) (now start ms) m.event r m.state) outcome run.1) in
-    elim g.1 [
+    (elim (subst (λ (x : Event). Happens limit (length ms) (now start ms) x (Refused why) m.state) event
+    (subst (λ (r : Outcome). Happens limit (length ms) (now start ms) m.event r m.state) outcome run.1)).1 [
       | inl e ↦ get_refusal limit (now start ms) name file why
           (stored_named limit start ms name file clean run.2 h) h e
       | inr e ↦ inr (inr e)

@@ -31,29 +31,28 @@ module _ (p q : Provider) where
   stored o s block c = record {
     tells = mapped (with_block o s block) p.held q.held c.held;
     stores = c.counts.store_faults;
-    others = (let e = c.counts.other_faults in omega (arith, e));
+    others = omega (arith, c.counts.other_faults);
   }
 
   store_failed : FailsToStore p q → Onward p q
   store_failed c = record {
     tells = subst IsSome (sym c.held);
     stores = c.counts.store_faults;
-    others = (let e = c.counts.other_faults in omega (arith, e));
+    others = omega (arith, c.counts.other_faults);
   }
 
   no_memory : FindsNoMemory p q → Onward p q
   no_memory c = record {
     tells = subst IsSome (sym c.held);
     stores = c.counts.store_faults;
-    others = (let e = c.counts.other_faults in omega (arith, e));
+    others = omega (arith, c.counts.other_faults);
   }
 
   fetched : (size o s : ℕ) (block : Option (List ℕ)) → Fetches size o s p block q → Onward p q
   fetched size o s block c =
       record {
         tells = subst IsSome (sym c.held);
-        stores =
-            (let e = c.counts.store_faults in omega (arith, e));
+        stores = omega (arith, c.counts.store_faults);
         others = c.counts.other_faults;
       }
 
@@ -62,20 +61,19 @@ module _ (p q : Provider) where
   asked honest o symbol c =
       record {
         tells = subst IsSome (sym c.held);
-        stores =
-            (let e = c.counts.store_faults in omega (arith, e));
+        stores = omega (arith, c.counts.store_faults);
         others = c.counts.other_faults;
       }
 
   removed : (o : ℕ) → Removes o p q → Onward p q
   removed o (inl c) = record {
     tells = mapped (without_object o) p.held q.held c.held;
-    stores = (let e = c.counts.store_faults in omega (arith, e));
+    stores = omega (arith, c.counts.store_faults);
     others = c.counts.other_faults;
   }
   removed o (inr c) = record {
     tells = lost_part o p.held q.held c.held;
-    stores = (let e = c.counts.store_faults in omega (arith, e));
+    stores = omega (arith, c.counts.store_faults);
     others = c.counts.other_faults;
   }
 
@@ -86,12 +84,12 @@ replaced IsThere change done held p q is h = go held p is h
     go : (x : Option Held) (r : Provider) → r.held ≡ x → Replaces IsThere change done r q → Onward r q
     go None r e g = (let k = rw e at g in
         record {
-          tells = λ z. absurd (false≢true (subst IsSome e z));
-          stores = (let c = k.1.store_faults in omega (arith, c));
+          tells = λ z. absurd (false≢true (rw e at z));
+          stores = omega (arith, k.1.store_faults);
           others = k.1.other_faults;
         })
-    go (Some x) r e g = (let k = rw e at g in
-        subst (Onward r) (sym k.1) (record { tells = λ z. refl; stores = omega arith; others = omega arith }))
+    go (Some x) r e g = subst (Onward r) (sym (rw e at g).1) (record
+        { tells = λ z. refl; stores = omega arith; others = omega arith })
 
 module _ (old : State) where
   -- no provider changes
@@ -112,10 +110,9 @@ module _ (old : State) where
     where
       at : (i : ℕ) → Onward (old.providers i) (with_provider old.providers j p i)
       at i = elim (cases_Bool (i == j)) [
-        | inl t ↦ subst (λ (x : Provider). Onward (old.providers i) x) (sym (hit i t))
+        | inl t ↦ subst (λ x. Onward (old.providers i) x) (sym (hit i t))
             (subst (λ n. Onward (old.providers n) p) (sym (eqb-true i j t)) goes)
-        | inr f ↦ subst (λ (x : Provider). Onward (old.providers i) x) (sym (miss i f))
-            (stands (old.providers i))
+        | inr f ↦ subst (λ x. Onward (old.providers i) x) (sym (miss i f)) (stands (old.providers i))
       ]
         where
           hit : (n : ℕ) → (n == j) ≡ true → with_provider old.providers j p n ≡ p

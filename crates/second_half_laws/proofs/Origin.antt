@@ -1,5 +1,5 @@
 -- Each block that a running job was given came of a fetch since its begin.
-use Rattle.second_half_laws.proofs.Words.{refl, ap, sym, subst, ◌∙◌, inl, inr, arith, eq-eqb, In, Provider, FailsToGive, Fetches, Kind, PutJob, Pinned, Job, Given, Fetched, Worked, job_of, with_job, without_job, advanced, advanced_with, Event, Outcome, State, IsStart, worked_object, with_provider, going_on, beginning, Happens, Moment, now, IsRun, steps_aside, Acting, Cases, by_event, cond_true, found_with, found_without, found_more, found_none, all, IsHeldThen, CameOf}
+use Rattle.second_half_laws.proofs.Words.{refl, ap, sym, subst, ◌∙◌, inl, inr, arith, eq-eqb, In, Provider, Fetches, Kind, PutJob, Pinned, Job, Given, Fetched, Worked, job_of, with_job, without_job, advanced, advanced_with, Event, Outcome, State, IsStart, worked_object, with_provider, going_on, beginning, Happens, Moment, now, IsRun, steps_aside, Acting, Cases, by_event, cond_true, found_with, found_without, found_more, found_none, all, IsHeldThen, CameOf}
 use Rattle.std.proofs.Common.{◌≡◌, ℕ, ◌≤◌, ◌==◌, List, [], ◌∷◌, ◌++◌, length, Option, Some, None}
 
 -- a gift that is a block was held by its provider
@@ -49,8 +49,8 @@ module _ (old : State) where
         new.providers ≡ with_provider old.providers j p → IsHeldThen old new job.pinned j o s block
     found_by j o s block p new call providers = elim call.gives [
       | inl g ↦ inl g
-      | inr f ↦ inr (subst (λ (x : Provider). FailsToGive (old.providers j) block x)
-          (sym (ap (λ g. g j) providers ∙ cond_true (j == j) p (old.providers j) (eq-eqb j j refl))) f)
+      | inr f ↦ inr (rw (← (ap (λ g. g j) providers ∙ cond_true (j == j) p (old.providers j)
+          (eq-eqb j j refl))) at f)
     ]
 
     acts : Acting old job (λ r w. Gifts old w)
@@ -135,9 +135,9 @@ step_came start m ms early came given_now k job j o s block h i = by_gift (given
   where
     before : (x : Job) → job_of (now start ms).jobs k ≡ Some x → job.begun ≡ x.begun → job.pinned ≡ x.pinned →
         In (Fetched j o s block) x.given → CameOf start (m ∷ ms) job.begun job.pinned j o s block
-    before x runs begun pinned i_x = subst (λ n. CameOf start (m ∷ ms) n job.pinned j o s block) (sym begun)
-        (subst (λ l. CameOf start (m ∷ ms) x.begun l j o s block) (sym pinned)
-        (further start m ms x.begun x.pinned j o s block (came k x j o s block runs i_x)))
+    before x runs begun pinned i_x = (rw (← begun) at (subst (λ l. CameOf start (m ∷ ms) x.begun l j o s
+        block) (sym pinned)
+        (further start m ms x.begun x.pinned j o s block (came k x j o s block runs i_x))))
 
     now_given : (x : Job) (gift : Given) → job_of (now start ms).jobs k ≡ Some x → job.begun ≡ x.begun →
         job.pinned ≡ x.pinned → IsFound (now start ms) m.state x.pinned gift →
@@ -147,23 +147,20 @@ step_came start m ms early came given_now k job j o s block h i = by_gift (given
       moment = m;
       before = ms;
       split = refl;
-      since = (let l = early k x runs in omega (arith, l, begun));
-      held = subst (λ l. IsFound (now start ms) m.state l (Fetched j o s block)) (sym pinned)
-          (subst (IsFound (now start ms) m.state x.pinned) (sym e) found);
+      since = omega (arith, early k x runs, begun);
+      held = rw (← pinned) at (subst (IsFound (now start ms) m.state x.pinned) (sym e) found);
     }
     now_given x gift runs begun pinned found (inr i_x) = before x runs begun pinned i_x
 
     by_gift : Gift_is (now start ms) m.state k job → CameOf start (m ∷ ms) job.begun job.pinned j o s block
-    by_gift (Gift_is.had x runs given begun pinned) =
-        before x runs begun pinned (subst (In (Fetched j o s block)) given i)
-    by_gift (Gift_is.none given) = absurd (subst (In (Fetched j o s block)) given i)
+    by_gift (Gift_is.had x runs given begun pinned) = before x runs begun pinned (rw given at i)
+    by_gift (Gift_is.none given) = absurd (rw given at i)
     by_gift (Gift_is.one x gift runs given begun pinned found) =
-        now_given x gift runs begun pinned found (subst (In (Fetched j o s block)) given i)
+        now_given x gift runs begun pinned found (rw given at i)
 
 -- in every run a block that a job was given is what its provider held at a fetch since the job's begin
 pub came_of : (limit : ℕ) (start : State) → IsStart start → (ms : List Moment) → IsRun limit start ms →
     CameAll start ms
 came_of limit start clean [] run = λ k job j o s block h i. absurd (found_none start.jobs k job clean.jobs h)
-came_of limit start clean (m ∷ ms) run =
-    step_came start m ms (all limit start clean ms run.2).held.begun (came_of limit start clean ms run.2)
-    (gifts _ limit _ _ _ m.state run.1)
+came_of limit start clean (m ∷ ms) run = step_came start m ms (all limit start clean ms run.2).held.begun
+    (came_of limit start clean ms run.2) (gifts _ limit _ _ _ m.state run.1)

@@ -1,7 +1,7 @@
 -- What stays of a job, and of its list of actions, when it makes one of them.
-use Rattle.second_half_laws.proofs.Words.{◌-◌, ◌⊎◌, refl, ap, sym, subst, ◌∙◌, inl, inr, arith, slice_get, cases_lt, each_get, Setup, Kind, PutJob, DropJob, Given, Job, advanced, advanced_with, Action, WriteBody, SyncGate, End, append_actions, store_actions, remove_actions, actions_by, actions_of, State, setup_in, subject_drawn, taken_out, next_action, first_above, drawn_later, split_get, actions_are, PutAt, put_next, next_stands}
+use Rattle.second_half_laws.proofs.Words.{◌-◌, ◌⊎◌, refl, ap, sym, subst, ◌∙◌, inl, inr, arith, slice_get, cases_lt, each_get, Setup, Kind, PutJob, DropJob, Given, Job, advanced, advanced_with, Action, SyncGate, End, append_actions, store_actions, remove_actions, actions_by, actions_of, State, setup_in, subject_drawn, taken_out, next_action, first_above, drawn_later, split_get, actions_are, PutAt, put_next, next_stands}
 use Rattle.std.proofs.Common.{◌≡◌, ℕ, zero, suc, ◌+◌, ◌<◌, ◌≤◌, List, [], ◌∷◌, ◌++◌, length, Some}
-use Rattle.second_half_laws.proofs.Walk.{IsGift, IsSilent, Passed}
+use Rattle.second_half_laws.proofs.Walk.{Passed}
 use Rattle.second_half_laws.proofs.Places.{by_kind, tail_all}
 
 -- one job, earlier and now
@@ -43,7 +43,7 @@ pub later_advanced : (x : Job) → Later x (advanced x)
 later_advanced x = later_by x x.subject x.older (x.place + 1) [] (omega arith) (λ l. refl)
 
 on_to : (x y j : Job) → j ≡ y → Later x y → Later x j
-on_to x y j is h = subst (Later x) (sym is) h
+on_to x y j is h = rw (← is) at h
 
 -- a job that has made an action is the same job, later
 pub passed_later : (old : State) (x : Job) (action : Action) (new : State) (j : Job) →
@@ -70,12 +70,10 @@ passed_place old x action new j (Passed.finished a act flight mine is rec) = cc
 -- an end is not passed
 pub passed_not_end : (old : State) (x : Job) (action : Action) (new : State) (j : Job) →
     Passed old x action new j → action ≡ End → ⊥
-passed_not_end old x action new j (Passed.silent quiet is rec) e = subst IsSilent e quiet
-passed_not_end old x action new j (Passed.gave gift is_gift is rec) e =
-    subst (λ (a : Action). IsGift old x new a gift) e is_gift
-passed_not_end old x action new j (Passed.drew act is rec) e = (let f : WriteBody ≡ End = sym act ∙ e in cc)
-passed_not_end old x action new j (Passed.finished a act flight mine is rec) e =
-    (let f : SyncGate ≡ End = sym act ∙ e in cc)
+passed_not_end old x action new j (Passed.silent quiet is rec) e = rw e at quiet
+passed_not_end old x action new j (Passed.gave gift is_gift is rec) e = (rw e at is_gift)
+passed_not_end old x action new j (Passed.drew act is rec) e = cc (sym act ∙ e)
+passed_not_end old x action new j (Passed.finished a act flight mine is rec) e = (cc (sym act ∙ e))
 
 -- ---- lists that begin alike
 
@@ -116,9 +114,8 @@ subject_first s x n p kind l = refl
 
 subject_same : (s : Setup) (x : Job) (n p : ℕ) (kind : Kind) → n ≡ x.subject →
     slice_get (actions_by s (with_subject x n) kind) p ≡ slice_get (actions_by s x kind) p
-subject_same s x n p kind e =
-    subst (λ m. slice_get (actions_by s (with_subject x m) kind) p ≡ slice_get (actions_by s x kind) p)
-    (sym e) (cc)
+subject_same s x n p kind e = subst
+    (λ m. slice_get (actions_by s (with_subject x m) kind) p ≡ slice_get (actions_by s x kind) p) (sym e) (cc)
 
 older_first : (s : Setup) (x : Job) (l : List ℕ) (p : ℕ) (kind : Kind) → p < 4 →
     slice_get (actions_by s (with_older x l) kind) p ≡ slice_get (actions_by s x kind) p
@@ -157,9 +154,8 @@ older_same w x l p (PutJob name bytes) kind h k = elim (gate_within w x name byt
   | inl a ↦ older_first (setup_in w) x l p (PutJob name bytes) (omega (arith, a, k))
   | inr b ↦ eight_same (store_actions (setup_in w) x bytes) _ _ p (omega (arith, b, k))
 ]
-older_same w x l p (DropJob name) kind h k =
-    (let at = by_kind (setup_in w) x (DropJob name) x.place SyncGate kind
-    (next_stands w x SyncGate h (λ e. cc)) in
+older_same w x l p (DropJob name) kind h k = (let at = by_kind (setup_in w) x (DropJob name) x.place SyncGate
+    kind (next_stands w x SyncGate h (λ e. cc)) in
     let a = drop_gate (setup_in w) x name x.place at in
     older_first (setup_in w) x l p (DropJob name) (omega (arith, a, k)))
 older_same w x l p g kind h k = refl
@@ -184,9 +180,8 @@ pub list_before : (old : State) (x : Job) (action : Action) (new : State) (j : J
     slice_get (actions_of (setup_in old) j) p ≡ slice_get (actions_of (setup_in old) x) p
 list_before old x action new j p next_is (Passed.silent quiet is rec) l =
     list_of (setup_in old) x (advanced x) j p is (by_lists (setup_in old) x (advanced x) p refl (cc))
-list_before old x action new j p next_is (Passed.gave gift is_gift is rec) l =
-    list_of (setup_in old) x (advanced_with x gift) j p is (by_lists (setup_in old) x (advanced_with x gift) p
-    refl (cc))
+list_before old x action new j p next_is (Passed.gave gift is_gift is rec) l = list_of (setup_in old) x
+    (advanced_with x gift) j p is (by_lists (setup_in old) x (advanced_with x gift) p refl (cc))
 list_before old x action new j p next_is (Passed.drew act is rec) l =
     list_of (setup_in old) x (with_subject x (subject_drawn old x x.kind)) j p is
     (by_lists (setup_in old) x (with_subject x (subject_drawn old x x.kind)) p refl (elim (cases_lt p 4) [

@@ -1,5 +1,5 @@
 -- What stands before what in the list of actions of a job.
-use Rattle.second_half_laws.proofs.Words.{◌-◌, true, cond, refl, subst, inl, inr, arith, slice_get, flat_map, slice_get_within, Each, In, each_get, each_append, each_map, each_flat, each_flat_in, get_behind, upto, Setup, Kind, PutJob, GetJob, DropJob, AuditJob, RepairJob, UpgradeJob, Pinned, Job, profiled, pinned_stripes, put_stripes, Action, WriteBody, SyncBody, WriteGate, SyncGate, Store, Fetch, Ask, Work, Remove, End, append_actions, on_each_provider, on_each_stripe, store_actions, open_actions, read_actions, rewrite_actions, repair_actions, rounds_of, ask_actions, remove_actions, actions_by, actions_of, State, setup_in, next_action, HasMadeStore, split_get, get_left, actions_are, stores_count, PutAt, put_at, next_stands, HasMade}
+use Rattle.second_half_laws.proofs.Words.{◌-◌, true, cond, refl, inl, inr, arith, slice_get, flat_map, slice_get_within, Each, In, each_get, each_append, each_map, each_flat, each_flat_in, get_behind, upto, Setup, Kind, PutJob, GetJob, AuditJob, RepairJob, Pinned, Job, profiled, pinned_stripes, put_stripes, Action, WriteBody, SyncBody, WriteGate, SyncGate, Store, Fetch, Ask, Work, Remove, End, append_actions, on_each_provider, on_each_stripe, store_actions, open_actions, read_actions, rewrite_actions, repair_actions, rounds_of, ask_actions, remove_actions, actions_by, actions_of, State, setup_in, next_action, HasMadeStore, IsFair, fair, split_get, get_left, actions_are, stores_count, PutAt, put_at, next_stands, HasMade}
 use Rattle.std.proofs.Common.{◌≡◌, ℕ, ◌+◌, ◌<◌, ◌≤◌, Bool, false, List, [], ◌∷◌, ◌++◌, length, Some}
 use Rattle.second_half_laws.proofs.Lists.{only, Stands, stands_left, stands_right, stands_map, stands_flat, in_upto, upto_in, Behind, behind_none, behind_append, behind_flat, stands_before}
 
@@ -36,7 +36,7 @@ IsCall action = Unit {0}
 each_not : (P : Action → Type 0) (a : Action) (xs : List Action) → (P a → ⊥) → Each P xs →
     Each (λ x. x ≡ a → ⊥) xs
 each_not P a [] bad h = tt
-each_not P a (x ∷ xs) bad h = (λ e. bad (subst P e h.0), each_not P a xs bad h.1)
+each_not P a (x ∷ xs) bad h = (λ e. bad (rw e at h.0), each_not P a xs bad h.1)
 
 -- ---- the opening of a stripe
 
@@ -110,9 +110,6 @@ piece_stores t job id st i o s p h =
 
 -- ---- lists without work
 
-no_work_moves : Each NoWork append_actions
-no_work_moves = (tt, (tt, (tt, (tt, tt))))
-
 -- what holds of every removal holds of those of a job
 pub removals : (t : Setup) (job : Job) (P : Action → Type 0) → ((j o : ℕ) → P (Remove j o)) →
     Each P (remove_actions t job)
@@ -129,7 +126,7 @@ stores_all t job bytes P h = each_flat P (λ stripe. on_each_provider t (λ j. S
 -- what holds of every ask holds of those of an audit
 pub asks_all : (t : Setup) (job : Job) (P : Action → Type 0) → ((j o r : ℕ) → P (Ask j o r)) →
     Each P (ask_actions t job)
-asks_all t job P h = each_flat P (λ (f : Pinned). flat_map (λ round. on_each_provider t (λ j. Ask j f.id
+asks_all t job P h = each_flat P (λ f. flat_map (λ round. on_each_provider t (λ j. Ask j f.id
     round)) (rounds_of (profiled t f.profile) (length f.bytes))) job.pinned (λ f. each_flat P
     (λ round. on_each_provider t (λ j. Ask j f.id round)) (rounds_of (profiled t f.profile) (length f.bytes))
     (λ round. each_map P _ _ (λ j. h j f.id round)))
@@ -139,53 +136,27 @@ pub tail_all : (t : Setup) (job : Job) (P : Action → Type 0) → ((j o : ℕ) 
     Each P (remove_actions t job ++ End ∷ [])
 tail_all t job P h e = each_append P (remove_actions t job) (End ∷ []) (removals t job P h) (e, tt)
 
--- what holds of an append and of what follows holds of both together
-pub moves_all : (P : Action → Type 0) (more : List Action) → Each P append_actions → Each P more →
-    Each P (append_actions ++ more)
-moves_all P more a b = each_append P append_actions more a b
-
 -- ---- what stands before the work on a stripe
 
 work_behind : (t : Setup) (job : Job) (kind : Kind) (i o s : ℕ) → i < t.n →
     Behind (Fetch i o s) (Work o s) (actions_by t job kind)
-work_behind t job (PutJob name bytes) i o s l = behind_none (Fetch i o s) (Work o s)
-    (actions_by t job (PutJob name bytes))
-    (each_not NoWork (Work o s) (actions_by t job (PutJob name bytes)) (λ z. z)
-    (moves_all NoWork (store_actions t job bytes ++ (append_actions ++ (remove_actions t job ++ End ∷ [])))
-    no_work_moves
-    (each_append NoWork (store_actions t job bytes) (append_actions ++ (remove_actions t job ++ End ∷ []))
-    (stores_all t job bytes NoWork (λ j st. tt))
-    (moves_all NoWork (remove_actions t job ++ End ∷ []) no_work_moves
-    (tail_all t job NoWork (λ j st. tt) tt)))))
-work_behind t job (GetJob name) i o s l =
-    behind_append (Fetch i o s) (Work o s) (read_actions t job.pinned) (End ∷ [])
-    (behind_flat (Fetch i o s) (Work o s)
-    (λ (f : Pinned). on_each_stripe (profiled t f.profile) (length f.bytes) (open_actions t f.id)) job.pinned
+work_behind t job (GetJob name) i o s l p h = behind_append (Fetch i o s) (Work o s)
+    (read_actions t job.pinned) (End ∷ []) (behind_flat (Fetch i o s) (Work o s)
+    (λ f. on_each_stripe (profiled t f.profile) (length f.bytes) (open_actions t f.id)) job.pinned
     (λ f in_f. behind_flat (Fetch i o s) (Work o s) (open_actions t f.id) (upto (pinned_stripes t f))
-    (λ st in_st. open_behind t f.id st i o s l)))
-    (behind_none (Fetch i o s) (Work o s) (End ∷ [])
-    (each_not NoWork (Work o s) (End ∷ []) (λ z. z) (tt, tt)))
-work_behind t job (DropJob name) i o s l = behind_none (Fetch i o s) (Work o s)
-    (actions_by t job (DropJob name)) (each_not NoWork (Work o s) (actions_by t job (DropJob name)) (λ z. z)
-    (moves_all NoWork (remove_actions t job ++ End ∷ []) no_work_moves
-    (tail_all t job NoWork (λ j st. tt) tt)))
-work_behind t job AuditJob i o s l = behind_none (Fetch i o s) (Work o s) (actions_by t job AuditJob)
-    (each_not NoWork (Work o s) (actions_by t job AuditJob) (λ z. z)
-    (moves_all NoWork (ask_actions t job ++ (append_actions ++ End ∷ [])) no_work_moves
-    (each_append NoWork (ask_actions t job) (append_actions ++ End ∷ [])
-    (asks_all t job NoWork (λ j st r. tt)) (moves_all NoWork (End ∷ []) no_work_moves (tt, tt)))))
-work_behind t job RepairJob i o s l =
+    (λ st in_st. open_behind t f.id st i o s l))) (behind_none (Fetch i o s) (Work o s) (End ∷ [])
+    (each_not NoWork (Work o s) (End ∷ []) (λ z. z) (tt, tt))) p h
+work_behind t job RepairJob i o s l p h =
     behind_append (Fetch i o s) (Work o s) (repair_actions t job) (append_actions ++ End ∷ [])
-    (behind_flat (Fetch i o s) (Work o s)
-    (λ (f : Pinned). on_each_stripe (profiled t f.profile) (length f.bytes)
+    (behind_flat (Fetch i o s) (Work o s) (λ f. on_each_stripe (profiled t f.profile) (length f.bytes)
     (λ stripe. open_actions t f.id stripe ++ rewrite_actions t job f.id stripe)) job.pinned
     (λ f in_f. behind_flat (Fetch i o s) (Work o s)
-    (λ stripe. open_actions t f.id stripe ++ rewrite_actions t job f.id stripe)
-    (upto (pinned_stripes t f)) (λ st in_st. piece_opens t job f.id st i o s l)))
-    (behind_none (Fetch i o s) (Work o s) (append_actions ++ End ∷ [])
-    (each_not NoWork (Work o s) (append_actions ++ End ∷ []) (λ z. z) (tt, (tt, (tt, (tt, (tt, tt)))))))
-work_behind t job UpgradeJob i o s l = behind_none (Fetch i o s) (Work o s) (append_actions ++ End ∷ [])
-    (each_not NoWork (Work o s) (append_actions ++ End ∷ []) (λ z. z) (tt, (tt, (tt, (tt, (tt, tt))))))
+    (λ stripe. open_actions t f.id stripe ++ rewrite_actions t job f.id stripe) (upto (pinned_stripes t f))
+    (λ st in_st. piece_opens t job f.id st i o s l))) (behind_none (Fetch i o s) (Work o s)
+    (append_actions ++ End ∷ []) (each_not NoWork (Work o s) (append_actions ++ End ∷ []) (λ z. z)
+    (tt, (tt, (tt, (tt, (tt, tt))))))) p h
+work_behind t job kind i o s l p h =
+    absurd (each_get (IsFair job kind) (actions_by t job kind) p (Work o s) (fair t job kind) h)
 
 -- before each place of the work on a stripe stands each fetch of it
 pub fetch_before_work : (t : Setup) (job : Job) (p i o s : ℕ) →
@@ -198,21 +169,17 @@ fetch_before_work t job p i o s h l =
 -- a job that comes to the work on a stripe has fetched it from each provider
 pub fetched_before_work : (w : State) (job : Job) (o s i : ℕ) → next_action w job ≡ Some (Work o s) →
     i < (setup_in w).n → HasMade (setup_in w) job (Fetch i o s)
-fetched_before_work w job o s i h l =
-    (let r = fetch_before_work (setup_in w) job job.place i o s
+fetched_before_work w job o s i h l = (let r = fetch_before_work (setup_in w) job job.place i o s
     (next_stands w job (Work o s) h (λ e. cc)) l in record { place = r.0; made = r.1; action = r.2 })
 
 -- ---- what stands before the end of a get
 
--- what holds of every fetch and of all work holds of what a get reads
-pub reads_all : (t : Setup) (pinned : List Pinned) (P : Action → Type 0) → ((j o st : ℕ) → P (Fetch j o st)) →
-    ((o st : ℕ) → P (Work o st)) → Each P (read_actions t pinned)
-reads_all t pinned P f g =
-    each_flat P _ pinned (λ h. each_flat P _ _ (λ st. opens_nothing t P h.id st (λ j. f j h.id st)
-    (g h.id st)))
-
-reads_call : (t : Setup) (pinned : List Pinned) → Each IsCall (read_actions t pinned)
-reads_call t pinned = reads_all t pinned IsCall (λ j o st. tt) (λ o st. tt)
+-- what holds of fetches and work on stripes of its files holds of what a get reads
+pub reads_all : (t : Setup) (job : Job) (P : Action → Type 0) →
+    ((f : Pinned) (st : ℕ) → In f job.pinned → st < pinned_stripes t f →
+    ((j : ℕ) → P (Fetch j f.id st)) × P (Work f.id st)) → Each P (read_actions t job.pinned)
+reads_all t job P h = each_flat_in P _ _ (λ f in_f. each_flat_in P _ _ (λ st in_st. (let g =
+    h f st in_f (upto_in (pinned_stripes t f) st in_st) in opens_nothing t P f.id st g.0 g.1)))
 
 fetch_stands : (t : Setup) (job : Job) (name : List ℕ) (f : Pinned) (s i : ℕ) → In f job.pinned →
     s < pinned_stripes t f → i < t.n → Stands (Fetch i f.id s) (read_actions t job.pinned)
@@ -231,7 +198,7 @@ pub fetched_before_end : (w : State) (job : Job) (name : List ℕ) (f : Pinned) 
     s < pinned_stripes (setup_in w) f → i < (setup_in w).n → HasMade (setup_in w) job (Fetch i f.id s)
 fetched_before_end w job name f s i kind h in_f l k =
     (let r = stands_before _ _ _ End _ (fetch_stands (setup_in w) job name f s i in_f l k) (each_not IsCall
-    End _ (λ z. z) (reads_call (setup_in w) job.pinned)) (by_kind (setup_in w) job (GetJob name) job.place End
+    End _ (λ z. z) (reads_all (setup_in w) job IsCall (λ h st in_h l2. (λ j. tt, tt)))) (by_kind (setup_in w) job (GetJob name) job.place End
     kind (get_stands w job name End kind h)) in
     record {
       place = r.0;
@@ -263,14 +230,12 @@ stores_behind : (t : Setup) (job : Job) (i o s : ℕ) →
     Behind (Work o s) (Store i o s) (actions_by t job RepairJob)
 stores_behind t job i o s =
     behind_append (Work o s) (Store i o s) (repair_actions t job) (append_actions ++ End ∷ [])
-    (behind_flat (Work o s) (Store i o s)
-    (λ (f : Pinned). on_each_stripe (profiled t f.profile) (length f.bytes)
-    (λ stripe. open_actions t f.id stripe ++ rewrite_actions t job f.id stripe)) job.pinned
+    (behind_flat (Work o s) (Store i o s) (λ (f : Pinned). on_each_stripe (profiled t f.profile)
+    (length f.bytes) (λ stripe. open_actions t f.id stripe ++ rewrite_actions t job f.id stripe)) job.pinned
     (λ f in_f. behind_flat (Work o s) (Store i o s)
-    (λ stripe. open_actions t f.id stripe ++ rewrite_actions t job f.id stripe)
-    (upto (pinned_stripes t f)) (λ st in_st. piece_stores t job f.id st i o s)))
-    (behind_none (Work o s) (Store i o s) (append_actions ++ End ∷ [])
-    (each_not NoStore (Store i o s) (append_actions ++ End ∷ []) (λ z. z)
+    (λ stripe. open_actions t f.id stripe ++ rewrite_actions t job f.id stripe) (upto (pinned_stripes t f))
+    (λ st in_st. piece_stores t job f.id st i o s))) (behind_none (Work o s) (Store i o s)
+    (append_actions ++ End ∷ []) (each_not NoStore (Store i o s) (append_actions ++ End ∷ []) (λ z. z)
     (tt, (tt, (tt, (tt, (tt, tt)))))))
 
 -- before each place of a store of a repair stands the work on its stripe
@@ -286,8 +251,7 @@ pub worked_before_store : (w : State) (job : Job) (i o s : ℕ) → job.kind ≡
     next_action w job ≡ Some (Store i o s) →
     HasMade (setup_in w) job (Work o s) ×
     ((f : Pinned) × In f job.pinned × (f.id ≡ o) × (s < pinned_stripes (setup_in w) f))
-worked_before_store w job i o s kind h =
-    (let at = next_stands w job (Store i o s) h (λ e. cc) in
+worked_before_store w job i o s kind h = (let at = next_stands w job (Store i o s) h (λ e. cc) in
     let r = work_before_store (setup_in w) job job.place i o s kind at in (
       record { place = r.0; made = r.1; action = r.2 },
       each_get _ _ _ _ (store_pinned (setup_in w) job) (by_kind (setup_in w) job RepairJob job.place
@@ -307,9 +271,8 @@ store_in_repair t job f i s in_f flag k l = stands_flat _ _ f _ in_f (stands_fla
 pub store_stands : (t : Setup) (job : Job) (f : Pinned) (i s : ℕ) → job.kind ≡ RepairJob → In f job.pinned →
     job.flagged i ≡ true → i < t.n → s < pinned_stripes t f →
     (p : ℕ) × (slice_get (actions_of t job) p ≡ Some (Store i f.id s))
-store_stands t job f i s kind in_f flag k l =
-    (let r = stands_left (repair_actions t job) (append_actions ++ End ∷ []) (Store i f.id s)
-    (store_in_repair t job f i s in_f flag k l) in
+store_stands t job f i s kind in_f flag k l = (let r = stands_left (repair_actions t job)
+    (append_actions ++ End ∷ []) (Store i f.id s) (store_in_repair t job f i s in_f flag k l) in
     (r.0, of_kind t job RepairJob r.0 (Store i f.id s) kind r.1))
 
 -- a move of a repair stands behind its stores
@@ -338,7 +301,7 @@ pub gate_behind : (w : State) (job : Job) (p i o s : ℕ) → job.kind ≡ Repai
     p < job.place
 gate_behind w job p i o s kind h at =
     (let late = move_behind _ job _ _ kind (next_stands w job WriteGate h (λ e. cc)) (λ z. z) in
-    let early = store_within (setup_in w) job p i o s kind at in omega arith)
+    omega (arith, store_within (setup_in w) job p i o s kind at))
 
 -- ---- the stores of a put
 
@@ -348,14 +311,12 @@ pub put_store_at : (t : Setup) (job : Job) (name bytes : List ℕ) (i s : ℕ) �
     (p : ℕ) × (p < 4 + length (store_actions t job bytes)) ×
     (slice_get (actions_of t job) p ≡ Some (Store i job.subject s))
 put_store_at t job name bytes i s kind k l =
-    (let at = stands_flat _ _ s _ (in_upto _ s l) (stands_map _ _ i (in_upto t.n i k)) in
-    let early = slice_get_within (store_actions t job bytes) at.0 (Store i job.subject s) at.1 in (
+    (let at = stands_flat _ _ s _ (in_upto _ s l) (stands_map _ _ i (in_upto t.n i k)) in (
       length append_actions + at.0,
-      omega (arith, early),
+      omega (arith, slice_get_within (store_actions t job bytes) at.0 (Store i job.subject s) at.1),
       of_kind t job (PutJob name bytes) (length append_actions + at.0) (Store i job.subject s) kind
-          (get_behind append_actions
-          (store_actions t job bytes ++ (append_actions ++ (remove_actions t job ++ End ∷ []))) at.0
-          (Store i job.subject s)
+          (get_behind append_actions (store_actions t job bytes ++
+          (append_actions ++ (remove_actions t job ++ End ∷ []))) at.0 (Store i job.subject s)
           (get_left (store_actions t job bytes) (append_actions ++ (remove_actions t job ++ End ∷ [])) at.0
           (Store i job.subject s) at.1)),
     ))
@@ -365,8 +326,11 @@ pub put_stores : (t : Setup) (job : Job) (name bytes : List ℕ) (i s : ℕ) →
     4 + length (store_actions t job bytes) ≤ job.place → i < t.n → s < put_stripes t job bytes →
     HasMadeStore t job i job.subject s
 put_stores t job name bytes i s kind late k l =
-    (let at = put_store_at t job name bytes i s kind k l in let e = at.1 in
-    record { place = at.0; made = omega (arith, e, late); action = at.2 })
+    (let at = put_store_at t job name bytes i s kind k l in record {
+      place = at.0;
+      made = omega (arith, at.1, late);
+      action = at.2;
+    })
 
 -- a store
 abbrev pub IsStore : Action → Type 0
@@ -388,8 +352,7 @@ put_late_at w job name bytes p action h late none = elim (put_at w job name byte
 pub put_late : (w : State) (job : Job) (name bytes : List ℕ) (action : Action) →
     job.kind ≡ PutJob name bytes → next_action w job ≡ Some action → 4 ≤ job.place → (IsStore action → ⊥) →
     (action ≡ End → ⊥) → 4 + stores_count w job bytes ≤ job.place
-put_late w job name bytes action kind h late none other =
-    put_late_at w job name bytes job.place action
+put_late w job name bytes action kind h late none other = put_late_at w job name bytes job.place action
     (by_kind (setup_in w) job (PutJob name bytes) job.place action kind (next_stands w job action h other))
     late none
 
@@ -397,8 +360,7 @@ put_late w job name bytes action kind h late none other =
 pub stored_before_gate : (w : State) (job : Job) (name bytes : List ℕ) (i s : ℕ) →
     job.kind ≡ PutJob name bytes → next_action w job ≡ Some WriteGate → 4 ≤ job.place → i < (setup_in w).n →
     s < put_stripes (setup_in w) job bytes → HasMadeStore (setup_in w) job i job.subject s
-stored_before_gate w job name bytes i s kind h late k l =
-    put_stores (setup_in w) job name bytes i s kind
+stored_before_gate w job name bytes i s kind h late k l = put_stores (setup_in w) job name bytes i s kind
     (put_late w job name bytes WriteGate kind h late (λ z. z) (λ e. cc)) k l
 
 -- ---- the asks of an audit
@@ -408,10 +370,9 @@ pub ask_at : (t : Setup) (job : Job) (f : Pinned) (i r : ℕ) → job.kind ≡ A
     i < t.n → In r (rounds_of (profiled t f.profile) (length f.bytes)) →
     (p : ℕ) × (p < 4 + length (ask_actions t job)) × (slice_get (actions_of t job) p ≡ Some (Ask i f.id r))
 ask_at t job f i r kind in_f k in_r =
-    (let at = stands_flat _ _ f _ in_f (stands_flat _ _ r _ in_r (stands_map _ _ i (in_upto t.n i k))) in
-    let early = slice_get_within (ask_actions t job) at.0 (Ask i f.id r) at.1 in (
+    (let at = stands_flat _ _ f _ in_f (stands_flat _ _ r _ in_r (stands_map _ _ i (in_upto t.n i k))) in (
       length append_actions + at.0,
-      omega (arith, early),
+      omega (arith, slice_get_within (ask_actions t job) at.0 (Ask i f.id r) at.1),
       of_kind t job AuditJob (length append_actions + at.0) (Ask i f.id r) kind
           (get_behind append_actions (ask_actions t job ++ (append_actions ++ End ∷ [])) at.0 (Ask i f.id r)
           (get_left (ask_actions t job) (append_actions ++ End ∷ []) at.0 (Ask i f.id r) at.1)),
@@ -432,11 +393,11 @@ pub audit_late : (t : Setup) (job : Job) (p : ℕ) (action : Action) → job.kin
 audit_late t job p action kind h late moves =
     elim (split_get append_actions (ask_actions t job ++ (append_actions ++ End ∷ [])) p action
     (by_kind t job AuditJob p action kind h)) [
-      | inl a ↦ absurd (let l = a.0 in omega (arith, l, late))
+      | inl a ↦ absurd (omega (arith, a.0, late))
       | inr b ↦ elim (split_get (ask_actions t job) (append_actions ++ End ∷ []) (p - 4) action b.1) [
         | inl c ↦ absurd (moves
             (each_get NotMove (ask_actions t job) (p - 4) action (asks_all t job NotMove (λ j o r. tt)) c.1))
-        | inr d ↦ (let l = b.0 in let k = d.0 in omega (arith, l, k))
+        | inr d ↦ (omega (arith, b.0, d.0))
       ]
     ]
 
@@ -453,9 +414,9 @@ pub audit_mute : (t : Setup) (job : Job) (p : ℕ) (action : Action) → job.kin
 audit_mute t job p action kind h late =
     elim (split_get append_actions (ask_actions t job ++ (append_actions ++ End ∷ [])) p action
     (by_kind t job AuditJob p action kind h)) [
-      | inl a ↦ absurd (let l = a.0 in omega (arith, l, late))
+      | inl a ↦ absurd (omega (arith, a.0, late))
       | inr b ↦ elim (split_get (ask_actions t job) (append_actions ++ End ∷ []) (p - 4) action b.1) [
-        | inl c ↦ absurd (let l = c.0 in omega (arith, l, late))
+        | inl c ↦ absurd (omega (arith, c.0, late))
         | inr d ↦ each_get IsMute (append_actions ++ End ∷ []) (p - 4 - length (ask_actions t job)) action
             (tt, (tt, (tt, (tt, (tt, tt))))) d.1
       ]

@@ -1,15 +1,12 @@
 -- What holds in a run that is calm by a mark: blocks that are stored are right, and a moment since which all
 -- damage is new stays one.
-use Rattle.second_half_laws.proofs.Words.{true, ◌⊎◌, refl, ap, sym, ◌∙◌, inl, inr, arith, cases_Bool, In, symbols_in, columns, is_wrong_block, some-not-none, File, next_id, started_as, PutJob, RepairJob, Pinned, Fetched, Worked, Job, job_of, Action, Store, Remove, profiled, stripes_of, State, Doubt, Scrub, Scrubbing, IsStart, setup_in, object_in, file_object, pinned_object, worked_object, file_in, block_to_scrub, symbols_given, next_action, block_to_store, Moment, now, first_moments, is_replacement, is_replaced_since, IsRun, Mark, relies, begun_of, told_block, HasMadeStore, Block_is, Changes, some_told, audits, is_fair, store_place, found_none, setup_same, All, store_kinds, remove_kinds, IsBad, IsReplaced, RoseSince, IsEndOfPut, Never, PrecedesPuts, IsClear, IsMark}
+use Rattle.second_half_laws.proofs.Words.{true, ◌⊎◌, refl, ap, sym, ◌∙◌, inl, inr, arith, cases_Bool, In, symbols_in, columns, is_wrong_block, some-not-none, File, next_id, started_as, PutJob, RepairJob, Pinned, Fetched, Worked, Job, job_of, Action, Store, Remove, profiled, stripes_of, State, Doubt, Scrub, Scrubbing, setup_in, object_in, file_object, pinned_object, worked_object, file_in, block_to_scrub, symbols_given, next_action, block_to_store, Moment, now, first_moments, is_replacement, is_replaced_since, Mark, relies, begun_of, told_block, HasMadeStore, Block_is, some_told, is_fair, store_place, found_none, setup_same, store_kinds, remove_kinds, IsBad, IsReplaced, RoseSince, IsEndOfPut, Never, PrecedesPuts, IsClear, IsMark}
 use Rattle.std.proofs.Common.{◌≡◌, ℕ, ◌≤◌, ◌<◌, false, List, ◌∷◌, length, Option, Some, None}
-use Rattle.machine_defs.proofs.Numbers as num
-use Rattle.run_laws.proofs.InEffect as eff
-use Rattle.second_half_laws.proofs.Turns.{Turns}
 use Rattle.second_half_laws.proofs.Blocks.{since_more, since_now, since_earlier, right_block}
 use Rattle.second_half_laws.proofs.Places.{worked_before_store}
 use Rattle.second_half_laws.proofs.MadeFacts.{given_symbols, made_work_gave}
 use Rattle.second_half_laws.proofs.EveryRun as ev
-use Rattle.second_half_laws.proofs.EveryRun.{Always, file_below, worked_is}
+use Rattle.second_half_laws.proofs.EveryRun.{Around, file_below, worked_is}
 
 -- the state at the begin of a job
 abbrev pub begin_of : State → List Moment → Job → State
@@ -62,11 +59,9 @@ pub rows_right : (mark : Mark) (start : State) (ms : List Moment) → Facts mark
     RowsRight (now start ms)
 rows_right mark start ms F x o s symbols runs kind given = (F.rows x.number x o s symbols runs kind given).1
 
-module _ (limit : ℕ) (mark : Mark) (start : State) (m : Moment) (ms : List Moment) (clean : IsStart start)
-    (run : IsRun limit start ms) (A : All start ms) (U : num.Facts audits start ms)
-    (I : eff.Facts (now start ms))
-    (E : Always start ms) (X : Changes limit (length ms) (now start ms) m.event m.outcome m.state)
-    (T : Turns (now start ms) m.state) where
+module _ {limit : ℕ} {start : State} {m : Moment} {ms : List Moment} (N : Around limit start m ms) where
+  open N use {clean, run, facts as A, kept as E, changed as X}
+
   -- the state after these moments
   abbrev here : State
   here = now start ms
@@ -84,18 +79,17 @@ module _ (limit : ℕ) (mark : Mark) (start : State) (m : Moment) (ms : List Mom
   unstored x name bytes i o s runs kind next_is o_is none =
       (let place = store_place here x name bytes i o s kind next_is in
       some-not-none (started_as here.records o) name (ap (started_as here.records) o_is
-      ∙ A.pins.started x.number x name bytes runs kind place.0 (let l = place.1 in omega arith)) none)
+      ∙ A.pins.started x.number x name bytes runs kind place.0 (omega (arith, place.1))) none)
 
   -- a block that a repair stores is the column
   pub stored_column : RowsRight here → (x : Job) (i o s : ℕ) (b : Option (List ℕ)) →
       job_of here.jobs x.number ≡ Some x → next_action here x ≡ Some (Store i o s) → x.kind ≡ RepairJob →
       b ≡ Some (block_to_store here x x.kind i o s) →
       b ≡ Some (columns (worked_object here x o) (here.bytes o) i s)
-  stored_column W x i o s b runs next_is repairs b_is =
-      (let g = made_work_gave limit start clean ms run x.number x o s runs (worked_before_store here x i o s
-      repairs next_is).0 in
-      let rows = W x o s (symbols_given x.given o s) runs (ap relies repairs) (given_symbols x.given o s g.0
-      g.1) in cc)
+  stored_column W x i o s b runs next_is repairs b_is = (let g = made_work_gave limit start clean ms run
+      x.number x o s runs (worked_before_store here x i o s repairs next_is).0 in
+      cc (W x o s (symbols_given x.given o s) runs (ap relies repairs) (given_symbols x.given o s g.0
+      g.1)))
 
   -- so it is right, of a number that is not started and whose file has this profile
   pub stored_right : RowsRight here → (p : ℕ) (x : Job) (i o s : ℕ) (b : Option (List ℕ)) →
@@ -128,9 +122,8 @@ module _ (limit : ℕ) (mark : Mark) (start : State) (m : Moment) (ms : List Mom
         | Block_is.stored x runs next_is is ↦
             absurd (stored_right W p x i o s b runs next_is none (λ f in_f e. own x f runs in_f e)
             (some_told (block_to_store here x x.kind i o s) (here.providers i).held b (sym is ∙ told)) w)
-        | Block_is.scrubbed scrub rest at next_is is ↦
-            absurd (right_block (object_in here p o) (here.bytes o) i s
-            (cc (
+        | Block_is.scrubbed scrub rest at next_is is ↦ absurd (right_block (object_in here p o) (here.bytes o)
+            i s (cc (
               some_told (block_to_scrub here scrub i o s) (here.providers i).held b (sym is ∙ told),
               scrubs scrub rest at next_is,
             )))
@@ -148,8 +141,7 @@ module _ (limit : ℕ) (mark : Mark) (start : State) (m : Moment) (ms : List Mom
   pub pinned_bad : RowsRight here → (k : ℕ) (x : Job) (f : Pinned) (i s : ℕ) → job_of here.jobs k ≡ Some x →
       In f x.pinned → setup_in m.state ≡ setup_in here → IsBad m.state f.profile f.id i s →
       IsBad here f.profile f.id i s ⊎ (is_replacement m.event m.outcome i ≡ true)
-  pinned_bad W k x f i s runs in_x setup bad =
-      (let quiet = A.pins.pins k x f runs in_x in
+  pinned_bad W k x f i s runs in_x setup bad = (let quiet = A.pins.pins k x f runs in_x in
       bad_before W f.profile f.id i s setup quiet.0 quiet.1
       (λ y g runs_y in_g e. E.one_pin y.number k y x g f runs_y runs in_g in_x e)
       (λ y runs_y o. A.pins.older_free y.number k y x f.id f runs_y o runs in_x refl)
@@ -159,11 +151,9 @@ module _ (limit : ℕ) (mark : Mark) (start : State) (m : Moment) (ms : List Mom
   pub file_bad : RowsRight here → ScrubsRight here → (q : List ℕ) (f : File) (i s : ℕ) →
       file_in here q ≡ Some f → setup_in m.state ≡ setup_in here → IsBad m.state f.profile f.id i s →
       IsBad here f.profile f.id i s ⊎ (is_replacement m.event m.outcome i ≡ true)
-  file_bad W R q f i s stood setup bad =
-      bad_before W f.profile f.id i s setup (file_below A q f stood)
+  file_bad W R q f i s stood setup bad = bad_before W f.profile f.id i s setup (file_below A q f stood)
       (A.pins.sound.file q f stood).1 (λ y g runs_y in_g e. E.pin_file y.number y g q f runs_y in_g stood e)
-      (ev.no_remover limit start m ms A U I E X T q f stood)
-      (λ scrub rest at next_is. R scrub rest i s q f at next_is stood) bad
+      (ev.no_remover N q f stood) (λ scrub rest at next_is. R scrub rest i s q f at next_is stood) bad
 
   -- of the put whose record was in doubt
   put_bad : (d : Doubt) (id size p i s : ℕ) → here.doubt ≡ Some d → IsEndOfPut here.records d.entry id size p
@@ -174,7 +164,7 @@ module _ (limit : ℕ) (mark : Mark) (start : State) (m : Moment) (ms : List Mom
       elim (cases_Bool (is_replaced_since (begun_of d.maker) i (m ∷ ms))) [
         | inl t ↦ t
         | inr f ↦ absurd (right_block (object_in m.state p id) (m.state.bytes id) i s
-            (cc (ev.put_right limit start m ms A U I E X T d id size p i s b at e setup l k f told)))
+            (cc (ev.put_right N d id size p i s b at e setup l k f told)))
       ]
 
   -- files stay clear since a moment before which no put began that works
@@ -185,18 +175,15 @@ module _ (limit : ℕ) (mark : Mark) (start : State) (m : Moment) (ms : List Mom
       (length (m.state.bytes f.id)) → IsBad m.state f.profile f.id i s → Old i f.id s →
       IsReplaced from i (m ∷ ms) ⊎ New i f.id s) → IsClear start (m ∷ ms) from New
   clear_on W R from Old New P clear more q f i s h l k bad =
-      (let c = ev.comes limit start m ms A U I E X T q f h in let setup = setup_same m.state here c.setup in
+      (let c = ev.comes N q f h in let setup = setup_same m.state here c.setup in
       elim c.how [
-        | inl stood ↦
-            (let below = file_below A q f stood in
-            let n = ev.bounds limit start m ms A U I E X T f.profile f.id i s setup below l k in
+        | inl stood ↦ (let n = ev.bounds N f.profile f.id i s setup (file_below A q f stood) l k in
             elim (file_bad W R q f i s stood setup bad) [
               | inl old ↦ elim (clear q f i s stood n.0 n.1 old)
                   [ inl r ↦ inl (since_more from i m ms r) | inr x ↦ more q f i s stood h setup l k bad x ]
               | inr r ↦ inl (since_now from i m ms r P.early)
             ])
-        | inr (d, at, e) ↦ inl
-            (since_earlier from (begun_of d.maker) i (m ∷ ms)
+        | inr (d, at, e) ↦ inl (since_earlier from (begun_of d.maker) i (m ∷ ms)
             (P.doubts d e.version f.id f.size f.profile at e.entry_is)
             (put_bad d f.id f.size f.profile i s at e setup l k bad))
       ])
@@ -205,6 +192,6 @@ module _ (limit : ℕ) (mark : Mark) (start : State) (m : Moment) (ms : List Mom
   pub mark_on : RowsRight here → ScrubsRight here → (from : ℕ) → IsMark start ms from →
       IsMark start (m ∷ ms) from
   mark_on W R from P = record {
-    before = ev.before_on limit start m ms A U I E X T from P.before;
+    before = ev.before_on N from P.before;
     clear = clear_on W R from Never Never P.before P.clear (λ q f i s stood h setup l k bad x. absurd x);
   }

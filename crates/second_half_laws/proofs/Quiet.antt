@@ -26,8 +26,7 @@ module _ (old : State) where
       new ≡ record old { providers = with_provider old.providers j p } →
       ((o s : ℕ) → (told p o s ≡ told (old.providers j) o s) ⊎ (is_replacement e r j ≡ true)) → Quiet e r new
   called e r j p new is at i o s = elim (cases_Bool (i == j)) [
-    | inl t ↦
-        (let i_is : i ≡ j = eqb-true i j t in
+    | inl t ↦ (let i_is = eqb-true i j t in
         elim (at o s) [
           | inl k ↦ inl (cc)
           | inr k ↦ inr (cc)

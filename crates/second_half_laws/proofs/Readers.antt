@@ -1,35 +1,32 @@
 -- What gets and repairs read, in a calm run in which no audit missed damage.
-use Rattle.second_half_laws.proofs.Words.{true, ◌⊎◌, ◌&&◌, refl, ap, sym, subst, ◌∙◌, inl, inr, arith, IsTrue, IsSome, slice_get, cases_Bool, cases_lt, and_parts, eqb-true, false≢true, In, each_get, upto, some-not-none, Object, symbols_in, columns, is_wrong_block, GivesSymbols, block_at, count_of, count_of-within, Setup, next_id, Rose, last_count, Held, FetchGives, RepairJob, Pinned, Given, Fetched, Answered, Worked, Job, job_of, Action, WriteBody, SyncGate, Store, Work, Remove, actions_of, Fetch, Ask, object_of, profiled, stripes_of, pinned_stripes, State, Scrubbing, IsStart, setup_in, object_among, pinned_object, worked_object, block_given, blocks_given, pinned_profile, next_action, block_to_store, Moment, now, first_moments, is_replaced_since, IsRun, Mark, relies, replaced_count, AllTell, number_of, Gave, Job_is, Block_is, Changes, told_block, HasMadeStore, some_told, audits, HasPin, IsFair, fair, is_fair, pinned_stands, Pins_is, pins_is, setup_stays, All, first_more, first_all, store_kinds, remove_kinds, none_lone, block_at-given, runs_shape, is_wrong_seen, IsHeldThen, IsBad, IsReplaced, RoseSince}
-use Rattle.std.proofs.Common.{◌≡◌, ℕ, suc, ◌+◌, ◌≤◌, ◌<◌, ◌==◌, false, List, [], ◌∷◌, length, Option, Some, None}
-use Rattle.machine_defs.proofs.Numbers as num
-use Rattle.run_laws.proofs.InEffect as eff
+use Rattle.second_half_laws.proofs.Words.{true, ◌⊎◌, ◌&&◌, refl, ap, sym, subst, ◌∙◌, inl, inr, arith, IsTrue, IsSome, slice_get, cases_Bool, cases_lt, and_parts, eqb-true, false≢true, In, each_get, upto, some-not-none, Object, symbols_in, columns, is_wrong_block, GivesSymbols, block_at, count_of, count_of-within, Setup, next_id, Rose, last_count, Held, FetchGives, RepairJob, Pinned, Given, Fetched, Answered, Worked, Job, job_of, Action, WriteBody, SyncGate, Store, Work, Remove, actions_of, Fetch, Ask, object_of, profiled, stripes_of, pinned_stripes, State, Scrubbing, setup_in, object_among, pinned_object, worked_object, block_given, blocks_given, pinned_profile, next_action, block_to_store, Moment, now, first_moments, is_replaced_since, Mark, IsMark, relies, replaced_count, AllTell, number_of, Gave, Job_is, Block_is, told_block, HasMadeStore, some_told, HasPin, IsFair, fair, is_fair, pinned_stands, Pins_is, pins_is, setup_stays, first_more, first_all, store_kinds, remove_kinds, none_lone, block_at-given, runs_shape, is_wrong_seen, IsHeldThen, IsBad, IsReplaced, RoseSince}
+use Rattle.std.proofs.Common.{◌≡◌, ℕ, ◌+◌, ◌≤◌, ◌<◌, ◌==◌, false, List, [], ◌∷◌, length, Option, Some, None}
 use Rattle.second_half_laws.proofs.Absent.{own_symbols}
 use Rattle.second_half_laws.proofs.Onward.{AllOnward}
 use Rattle.second_half_laws.proofs.Places.{by_kind}
 use Rattle.second_half_laws.proofs.Walk.{IsGift, Passed, Went, Walked}
-use Rattle.second_half_laws.proofs.Turns.{Turns}
 use Rattle.second_half_laws.proofs.Blocks.{since_more, since_now, sized_wrong}
 use Rattle.second_half_laws.proofs.MovePlaces.{works_within, same_actions}
 use Rattle.second_half_laws.proofs.EveryRun as ev
-use Rattle.second_half_laws.proofs.EveryRun.{Always, file_below}
+use Rattle.second_half_laws.proofs.EveryRun.{Around, file_below}
 use Rattle.second_half_laws.proofs.Points as pt
 use Rattle.second_half_laws.proofs.Points.{Facts, begin_of, mark_of, rows_right}
 
 -- a count that rose stays so
 pub rose_on : (a b c : ℕ) → Rose a b → b ≤ c → Rose a c
-rose_on a b c h l below = (let g = h below in omega (arith, g, l))
+rose_on a b c h l below = omega (arith, h below, l)
 
 -- a count that rose in a step rose since any moment before it
 pub rose_since : (a b c : ℕ) → a ≤ b → Rose b c → b ≤ c → Rose a c
 rose_since a b c early h l below = elim (cases_lt b last_count) [
-  | inl k ↦ (let g = h k in omega (arith, g, early))
+  | inl k ↦ (omega (arith, h k, early))
   | inr k ↦ omega (arith, k, l, below)
 ]
 
 -- a block that was given is among what was given
 pub block_in : (given : List Given) (o s i : ℕ) (block : List ℕ) → block_given given o s i ≡ Some block →
     In (Fetched i o s (Some block)) given
-block_in [] o s i block h = absurd (let e : None ≡ Some block = h in cc)
+block_in [] o s i block h = absurd (cc h)
 block_in (Fetched k p t b ∷ more) o s i block h = by_test (block_in more o s i block)
   where
     by_test : (block_given more o s i ≡ Some block → In (Fetched i o s (Some block)) more) →
@@ -41,8 +38,7 @@ block_in (Fetched k p t b ∷ more) o s i block h = by_test (block_in more o s i
           (sym b_is z)))
       | inr other ↦ inr (rest (cc))
     ]
-block_in (Answered k p r symbol ∷ more) o s i block h = inr (block_in more o s i block h)
-block_in (Worked p t symbols ∷ more) o s i block h = inr (block_in more o s i block h)
+block_in (_ ∷ more) o s i block h = inr (block_in more o s i block h)
 
 -- where each provider that gave a wrong block of a stripe was replaced since a moment, and at most b were, at
 -- most b gave one
@@ -52,11 +48,10 @@ pub few_of : (w : State) (ms : List Moment) (from : ℕ) (given : List Given) (f
     is_wrong_block (pinned_object w f) (w.bytes f.id) i s (Some block) ≡ true → IsReplaced from i ms) →
     count_of (λ i. is_wrong_seen (pinned_object w f) (w.bytes f.id) i s
     (block_at (blocks_given given (setup_in w).n f.id s) i)) (upto (setup_in w).n) ≤ (setup_in w).b
-few_of w ms from given f s calm gave =
-    (let c = count_of-within (λ i. is_wrong_seen (pinned_object w f) (w.bytes f.id) i s
-    (block_at (blocks_given given (setup_in w).n f.id s) i)) (λ i. is_replaced_since from i ms) 0
-    (setup_in w).n (λ i l wrong. one i (omega (arith, l)) (cc (block_at-given given (setup_in w).n f.id s i
-    (omega (arith, l))))) in
+few_of w ms from given f s calm gave = (let c = count_of-within (λ i. is_wrong_seen (pinned_object w f)
+    (w.bytes f.id) i s (block_at (blocks_given given (setup_in w).n f.id s) i))
+    (λ i. is_replaced_since from i ms) 0 (setup_in w).n (λ i l wrong. one i (omega (arith, l))
+    (cc (block_at-given given (setup_in w).n f.id s i (omega (arith, l))))) in
     let d : count_of (λ i. is_replaced_since from i ms) (upto (setup_in w).n) ≤ (setup_in w).b = calm in
     omega (arith, c, d))
   where
@@ -91,18 +86,17 @@ few_there mark start ms F calm k x f s runs kind in_x b =
     few_of (now start ms) ms (mark_of mark ms x) x.given f s (calm k x runs kind)
     (λ i block l given wrong. elim (F.gave k x f i s (Some block) runs in_x l b given wrong) [
       | inl r ↦ r
-      | inr q ↦ absurd (let z : Some block ≡ None = q.0 in cc)
+      | inr q ↦ absurd (cc q.0)
     ])
 
-module _ (limit : ℕ) (mark : Mark) (start : State) (m : Moment) (ms : List Moment) (clean : IsStart start)
-    (run : IsRun limit start ms) (A : All start ms) (U : num.Facts audits start ms)
-    (I : eff.Facts (now start ms))
-    (E : Always start ms) (F : Facts mark start ms)
-    (X : Changes limit (length ms) (now start ms) m.event m.outcome m.state)
-    (T : Turns (now start ms) m.state) (G : Walked (length ms) (now start ms) m.event m.outcome m.state)
+module _ {limit : ℕ} {mark : Mark} {start : State} {m : Moment} {ms : List Moment}
+    (N : Around limit start m ms) (F : Facts mark start ms)
+    (G : Walked (length ms) (now start ms) m.event m.outcome m.state)
     (O : AllOnward (now start ms) m.state) (tell : AllTell (now start ms))
     (calm : (k : ℕ) (j : Job) → job_of (now start ms).jobs k ≡ Some j → IsTrue (relies j.kind) →
     replaced_count (now start ms) (mark_of mark ms j) ms ≤ (setup_in (now start ms)).b) where
+  open N use {clean, run, facts as A, numbers as U, files as I, kept as E, changed as X, turned as T}
+
   -- the state after these moments
   abbrev u : State
   u = now start ms
@@ -116,66 +110,9 @@ module _ (limit : ℕ) (mark : Mark) (start : State) (m : Moment) (ms : List Mom
   first_new : (j : Job) → j.begun ≡ length ms → first_moments j.begun (m ∷ ms) ≡ ms
   first_new j begun = cc (first_more (length ms) m ms (omega arith), first_all ms)
 
-  -- after an event the mark at the begin of a running job is still not after now
-  pub marked_step : (k : ℕ) (j : Job) → job_of m.state.jobs k ≡ Some j →
-      mark_of mark (m ∷ ms) j ≤ suc (length ms)
-  marked_step k j h = elim (pins_is limit start m ms A.numbers A.pins X k j h) [
-    | Pins_is.had x runs pinned kind begun g ↦
-        (let e = ap mark (first_had j x begun (A.held.begun k x runs)) in let l = F.marked k x runs in
-        omega arith)
-    | Pins_is.new_one kd wish is k_is allowed rec ↦
-        (let e = ap mark (first_new j (cc)) in let l = F.moment.before.early in omega arith)
-  ]
-
-  -- after an event each provider with a bad block for a running job was replaced since the job's mark
-  pub reads_step : (k : ℕ) (j : Job) (f : Pinned) (i s : ℕ) → job_of m.state.jobs k ≡ Some j → In f j.pinned →
-      i < (setup_in m.state).n →
-      s < stripes_of (profiled (setup_in m.state) f.profile) (length (m.state.bytes f.id)) →
-      IsBad m.state f.profile f.id i s → IsReplaced (mark_of mark (m ∷ ms) j) i (m ∷ ms)
-  reads_step k j f i s h in_f l b bad = elim (pins_is limit start m ms A.numbers A.pins X k j h) [
-    | Pins_is.had x runs pinned kind begun g ↦ (let in_x = subst (In f) pinned in_f in
-        let below = (A.pins.pins k x f runs in_x).0 in
-        let n = ev.bounds limit start m ms A U I E X T f.profile f.id i s setup below l b in
-        subst (λ z. IsReplaced z i (m ∷ ms)) (cc (first_had j x begun (A.held.begun k x runs)))
-        (elim (pt.pinned_bad limit mark start m ms clean run A U I E X T (rows_right mark start ms F) k x f i
-        s runs in_x setup bad) [
-          | inl old ↦ since_more (mark_of mark ms x) i m ms (F.reads k x f i s runs in_x n.0 n.1 old)
-          | inr r ↦ since_now (mark_of mark ms x) i m ms r (F.marked k x runs)
-        ]))
-    | Pins_is.new_one kd wish is k_is allowed rec ↦
-        (let st = pinned_stands u kd f (subst (λ (x : Job). In f x.pinned) is in_f) in
-        let b_file = subst (λ (x : Pinned). s < stripes_of (profiled (setup_in m.state) x.profile)
-        (length (m.state.bytes x.id))) st.is b in
-        let bad_file = subst (λ (x : Pinned). IsBad m.state x.profile x.id i s) st.is bad in
-        let n = ev.bounds limit start m ms A U I E X T st.file.profile st.file.id i s setup
-        (file_below A st.name st.file st.in_effect) l b_file in
-        subst (λ z. IsReplaced z i (m ∷ ms)) (sym (ap mark (first_new j (cc))))
-        (elim (pt.file_bad limit mark start m ms clean run A U I E X T (rows_right mark start ms F)
-        (λ scrub rest i2 s2 q g at. absurd (some-not-none u.alone (Scrubbing scrub) at (none_lone limit u kd
-        wish allowed))) st.name st.file i s st.in_effect setup bad_file) [
-          | inl old ↦ elim (F.moment.clear st.name st.file i s st.in_effect n.0 n.1 old) [
-            | inl r ↦ since_more (mark ms) i m ms r
-            | inr never ↦ absurd never
-          ]
-          | inr r ↦ since_now (mark ms) i m ms r F.moment.before.early
-        ]))
-  ]
-    where
-      setup : setup_in m.state ≡ setup_in u
-      setup = setup_stays limit start m ms A.numbers A.pins X k j h
-
-  -- after an event no provider's count is below that at the begin of a running job
-  pub counts_step : (k : ℕ) (j : Job) (i : ℕ) → job_of m.state.jobs k ≡ Some j →
-      ((begin_of start (m ∷ ms) j).providers i).other_faults ≤ (m.state.providers i).other_faults
-  counts_step k j i h = elim (pins_is limit start m ms A.numbers A.pins X k j h) [
-    | Pins_is.had x runs pinned kind begun g ↦
-        (let e = ap (λ hs. ((now start hs).providers i).other_faults)
-        (first_had j x begun (A.held.begun k x runs)) in let l = F.counts k x i runs in
-        let n = (O.provider i).others in omega arith)
-    | Pins_is.new_one kd wish is k_is allowed rec ↦
-        (let e = ap (λ hs. ((now start hs).providers i).other_faults) (first_new j (cc)) in let n =
-        (O.provider i).others in omega arith)
-  ]
+  -- the setup that a running job stands on
+  same_setup : (k : ℕ) (j : Job) → job_of m.state.jobs k ≡ Some j → setup_in m.state ≡ setup_in u
+  same_setup = setup_stays limit start m ms A.numbers A.pins X
 
   -- ---- what was fetched
 
@@ -189,8 +126,7 @@ module _ (limit : ℕ) (mark : Mark) (start : State) (m : Moment) (ms : List Mom
       inl (cc (first_had j x begun (A.held.begun k x runs), since_more (mark_of mark ms x) i m ms r))
   excused_on k x j i block runs begun (inr (none, rose)) = inr (
     none,
-    subst (λ hs. RoseSince (now start hs) m.state i) (sym (first_had j x begun (A.held.begun k x runs)))
-        (rose_on _ _ _ rose (O.provider i).others),
+    (rw (← (first_had j x begun (A.held.begun k x runs))) at (rose_on _ _ _ rose (O.provider i).others)),
   )
 
   -- the object of a number among those that a job works on
@@ -211,7 +147,7 @@ module _ (limit : ℕ) (mark : Mark) (start : State) (m : Moment) (ms : List Mom
         (rose_since _ _ _ (F.counts k x i runs) rose (O.provider i).others),
   )
   fetched_now k x j f i s block runs begun in_x l b wrong (inl g) =
-      by_told (u.providers i).held refl (tell i) (subst (λ (ob : Object). FetchGives ob.profile.size f.id s
+      by_told (u.providers i).held refl (tell i) (subst (λ ob. FetchGives ob.profile.size f.id s
       (u.providers i).held block) (object_is k x f runs in_x) g)
     where
       by_told : (held : Option Held) → (u.providers i).held ≡ held → IsSome held →
@@ -225,7 +161,7 @@ module _ (limit : ℕ) (mark : Mark) (start : State) (m : Moment) (ms : List Mom
           )))
 
   -- a wrong block that a running job was given is of a provider replaced since its mark, or one failed
-  pub gave_step : (k : ℕ) (j : Job) (f : Pinned) (i s : ℕ) (block : Option (List ℕ)) →
+  gave_step : (k : ℕ) (j : Job) (f : Pinned) (i s : ℕ) (block : Option (List ℕ)) →
       job_of m.state.jobs k ≡ Some j → In f j.pinned → i < (setup_in m.state).n →
       s < stripes_of (profiled (setup_in m.state) f.profile) (length (m.state.bytes f.id)) →
       In (Fetched i f.id s block) j.given →
@@ -233,24 +169,18 @@ module _ (limit : ℕ) (mark : Mark) (start : State) (m : Moment) (ms : List Mom
       Excused (m ∷ ms) j i block
   gave_step k j f i s block h in_f l b given wrong = elim (G.job k j h) [
     | Went.kept runs other ↦ before j runs refl refl given
-    | Went.begun kind wish is k_is rec ↦
-        absurd (subst (λ (x : Job). In (Fetched i f.id s block) x.given) is given)
+    | Went.begun kind wish is k_is rec ↦ absurd (subst (λ x. In (Fetched i f.id s block) x.given) is given)
     | Went.went x action goes ↦ by_passed x action goes.runs goes.passed
   ]
     where
-      setup : setup_in m.state ≡ setup_in u
-      setup = setup_stays limit start m ms A.numbers A.pins X k j h
-
       before : (x : Job) → job_of u.jobs k ≡ Some x → j.begun ≡ x.begun → j.pinned ≡ x.pinned →
           In (Fetched i f.id s block) x.given → Excused (m ∷ ms) j i block
-      before x runs begun pinned in_given =
-          (let in_x = subst (In f) pinned in_f in
+      before x runs begun pinned in_given = (let in_x = subst (In f) pinned in_f in
           let below = (A.pins.pins k x f runs in_x).0 in
-          let n = ev.bounds limit start m ms A U I E X T f.profile f.id i s setup below l b in
+          let n = ev.bounds N f.profile f.id i s (same_setup k j h) below l b in
           excused_on k x j i block runs begun
-          (F.gave k x f i s block runs in_x n.0 n.1 in_given
-          (pt.wrong_old limit mark start m ms clean run A U I E X T f.profile f.id i s block setup
-          (X.bytes f.id below) wrong)))
+          (F.gave k x f i s block runs in_x n.0 n.1 in_given (pt.wrong_old N f.profile f.id i s block
+          (same_setup k j h) (X.bytes f.id below) wrong)))
 
       -- what a fetch of this event gave
       found : (x : Job) (action : Action) (gift : Given) → IsGift u x m.state action gift →
@@ -275,21 +205,21 @@ module _ (limit : ℕ) (mark : Mark) (start : State) (m : Moment) (ms : List Mom
       by_passed : (x : Job) (action : Action) → job_of u.jobs k ≡ Some x → Passed u x action m.state j →
           Excused (m ∷ ms) j i block
       by_passed x action runs (Passed.silent quiet is rec) =
-          before x runs (cc) (cc) (subst (λ (y : Job). In (Fetched i f.id s block) y.given) is given)
+          before x runs (cc) (cc) (subst (λ y. In (Fetched i f.id s block) y.given) is given)
       by_passed x action runs (Passed.gave gift is_gift is rec) =
-          elim (subst (λ (y : Job). In (Fetched i f.id s block) y.given) is given) [
-            | inl e ↦ (let in_x = subst (λ (y : Job). In f y.pinned) is in_f in
+          elim (subst (λ y. In (Fetched i f.id s block) y.given) is given) [
+            | inl e ↦ (let in_x = subst (λ y. In f y.pinned) is in_f in
                 let below = (A.pins.pins k x f runs in_x).0 in
-                let n = ev.bounds limit start m ms A U I E X T f.profile f.id i s setup below l b in
-                fetched_now k x j f i s block runs (cc) in_x n.0 n.1 (pt.wrong_old limit mark start m ms clean
-                run A U I E X T f.profile f.id i s block setup (X.bytes f.id below) wrong)
+                let n = ev.bounds N f.profile f.id i s (same_setup k j h) below l b in
+                fetched_now k x j f i s block runs (cc) in_x n.0 n.1
+                (pt.wrong_old N f.profile f.id i s block (same_setup k j h) (X.bytes f.id below) wrong)
                 (found x action gift is_gift (sym e)))
             | inr in_given ↦ before x runs (cc) (cc) in_given
           ]
       by_passed x action runs (Passed.drew act is rec) =
-          before x runs (cc) (cc) (subst (λ (y : Job). In (Fetched i f.id s block) y.given) is given)
+          before x runs (cc) (cc) (subst (λ y. In (Fetched i f.id s block) y.given) is given)
       by_passed x action runs (Passed.finished a act flight mine is rec) =
-          before x runs (cc) (cc) (subst (λ (y : Job). In (Fetched i f.id s block) y.given) is given)
+          before x runs (cc) (cc) (subst (λ y. In (Fetched i f.id s block) y.given) is given)
 
   -- ---- what the work of a get or a repair gave
 
@@ -301,53 +231,45 @@ module _ (limit : ℕ) (mark : Mark) (start : State) (m : Moment) (ms : List Mom
       relies x.kind ≡ true → next_action u x ≡ Some (Work o s) →
       GivesSymbols (worked_object u x o) s (blocks_given x.given (setup_in u).n o s) symbols →
       (o < next_id u.records) × Right u x.pinned o s symbols
-  rows_now k x o s symbols runs kind next_is gives =
-      by_file (works_within u x o s x.kind refl kind next_is)
+  rows_now k x o s symbols runs kind next_is gives = by_file (works_within u x o s x.kind refl kind next_is)
     where
       by_file : (f : Pinned) × In f x.pinned × (f.id ≡ o) × (s < pinned_stripes (setup_in u) f) →
           (o < next_id u.records) × Right u x.pinned o s symbols
       by_file (f, in_x, id_is, l) =
-          (let b : s < stripes_of (profiled (setup_in u) f.profile) (length (u.bytes f.id)) =
-          subst (λ (y : List ℕ). s < stripes_of (profiled (setup_in u) f.profile) (length y))
-          (E.pinned k x f runs in_x) l in let object = object_is k x f runs in_x in
+          (let b = rw (E.pinned k x f runs in_x) at l in let object = object_is k x f runs in_x in
           subst (λ n. (n < next_id u.records) × Right u x.pinned n s symbols) id_is (
             (A.pins.pins k x f runs in_x).0,
             cc (own_symbols (pinned_object u f) (u.bytes f.id) f.profile s (blocks_given x.given
                 (setup_in u).n f.id s) symbols refl (runs_shape limit start ms clean run k x runs) b
                 (few_there mark start ms F calm k x f s runs kind in_x b)
                 (subst (λ (ob : Object). GivesSymbols ob s (blocks_given x.given (setup_in u).n f.id s)
-                symbols) object (subst (λ n. GivesSymbols (worked_object u x n) s (blocks_given x.given
-                (setup_in u).n n s) symbols) (sym id_is) gives))),
+                symbols) object (rw (← id_is) at gives))),
           ))
 
   -- after an event the symbols that gets and repairs worked out are the files' own
-  pub rows_step : (k : ℕ) (j : Job) (o s : ℕ) (symbols : List ℕ) → job_of m.state.jobs k ≡ Some j →
+  rows_step : (k : ℕ) (j : Job) (o s : ℕ) (symbols : List ℕ) → job_of m.state.jobs k ≡ Some j →
       relies j.kind ≡ true → In (Worked o s symbols) j.given →
       (o < next_id m.state.records) × (symbols ≡ symbols_in (worked_object m.state j o) (m.state.bytes o) s)
   rows_step k j o s symbols h kind given = elim (X.job k j h) [
     | Job_is.kept r grown ↦ rows_on j refl (F.rows k j o s symbols r kind given)
     | Job_is.begun kd wish is k_is allowed rec ↦ absurd
-        (subst (λ (x : Job). In (Worked o s symbols) x.given) is given)
+        (subst (λ x. In (Worked o s symbols) x.given) is given)
     | Job_is.plain x action runs next_is is_plain goes rec st ↦
         rows_on x goes.pinned (by_gave x action runs next_is (cc) goes.gave)
     | Job_is.drew x runs next_is free is rec ↦ rows_on x (cc) (F.rows k x o s symbols runs (cc)
-        (subst (λ (y : Job). In (Worked o s symbols) y.given) is given))
-    | Job_is.finished x a runs next_is flight mine is rec free ↦
-        rows_on x (cc) (F.rows k x o s symbols runs (cc) (subst (λ (y : Job). In (Worked o s symbols) y.given)
-        is given))
+        (subst (λ y. In (Worked o s symbols) y.given) is given))
+    | Job_is.finished x a runs next_is flight mine is rec free ↦ rows_on x (cc)
+        (F.rows k x o s symbols runs (cc) (subst (λ y. In (Worked o s symbols) y.given) is given))
   ]
     where
-      setup : setup_in m.state ≡ setup_in u
-      setup = setup_stays limit start m ms A.numbers A.pins X k j h
-
       rows_on : (x : Job) → j.pinned ≡ x.pinned → (o < next_id u.records) × Right u x.pinned o s symbols →
           (o < next_id m.state.records) × Right m.state j.pinned o s symbols
       rows_on x pinned r = (
-        (let g = ev.ids_grow limit start m ms A U I E X T in let l = r.0 in omega arith),
+        (let g = ev.ids_grow N in let l = r.0 in omega arith),
         r.1 ∙ (ap (λ ps. symbols_in (object_among u ps o) (u.bytes o) s) (sym pinned)
             ∙ (ap (λ y. symbols_in (object_among u j.pinned o) y s) (sym (X.bytes o r.0))
-            ∙ ap (λ (t : Setup). symbols_in (object_of (profiled t (pinned_profile t.profile j.pinned o)) o)
-            (m.state.bytes o) s) (sym setup))),
+            ∙ ap (λ t. symbols_in (object_of (profiled t (pinned_profile t.profile j.pinned o)) o)
+            (m.state.bytes o) s) (sym (same_setup k j h)))),
       )
 
       by_gave : (x : Job) (action : Action) → job_of u.jobs k ≡ Some x → next_action u x ≡ Some action →
@@ -356,18 +278,17 @@ module _ (limit : ℕ) (mark : Mark) (start : State) (m : Moment) (ms : List Mom
           F.rows k x o s symbols runs kx (subst (In (Worked o s symbols)) g given)
       by_gave x action runs next_is kx (Gave.fetched i p t block act g) =
           elim (subst (In (Worked o s symbols)) g given) [
-            | inl e ↦ absurd (let z : Worked o s symbols ≡ Fetched i p t block = e in cc)
+            | inl e ↦ absurd (cc e)
             | inr old ↦ F.rows k x o s symbols runs kx old
           ]
       by_gave x action runs next_is kx (Gave.answered i p t symbol act g) =
           elim (subst (In (Worked o s symbols)) g given) [
-            | inl e ↦ absurd (let z : Worked o s symbols ≡ Answered i p t symbol = e in cc)
+            | inl e ↦ absurd (cc e)
             | inr old ↦ F.rows k x o s symbols runs kx old
           ]
       by_gave x action runs next_is kx (Gave.worked p t found act gives g) =
           elim (subst (In (Worked o s symbols)) g given) [
-            | inl e ↦
-                (let z : Worked o s symbols ≡ Worked p t found = e in let po : p ≡ o = cc in
+            | inl e ↦ (let z : Worked o s symbols ≡ Worked p t found = e in let po : p ≡ o = cc in
                 let ts : t ≡ s = cc in let fs : found ≡ symbols = cc in
                 now_worked p t found po ts fs (next_is ∙ ap Some act) gives)
             | inr old ↦ F.rows k x o s symbols runs kx old
@@ -392,13 +313,11 @@ module _ (limit : ℕ) (mark : Mark) (start : State) (m : Moment) (ms : List Mom
   -- the objects of one number among the files of two jobs are one
   objects_are : (x y : Job) (o : ℕ) → job_of u.jobs x.number ≡ Some x → job_of u.jobs y.number ≡ Some y →
       HasPin x o → HasPin y o → worked_object u y o ≡ worked_object u x o
-  objects_are x y o runs runs_y p q =
-      cc (
-        ev.worked_is start ms E y o runs_y q,
-        E.one_pin y.number x.number y x q.file p.file runs_y runs
-            q.pinned p.pinned (q.id_is ∙ sym p.id_is),
-        ev.worked_is start ms E x o runs p,
-      )
+  objects_are x y o runs runs_y p q = cc (
+    ev.worked_is start ms E y o runs_y q,
+    E.one_pin y.number x.number y x q.file p.file runs_y runs q.pinned p.pinned (q.id_is ∙ sym p.id_is),
+    ev.worked_is start ms E x o runs p,
+  )
 
   -- what a repair stored before an event is still the file's own after it, but for replacements
   pub carry : (k : ℕ) (x : Job) (i o s : ℕ) (b : Option (List ℕ)) → job_of u.jobs k ≡ Some x →
@@ -408,28 +327,25 @@ module _ (limit : ℕ) (mark : Mark) (start : State) (m : Moment) (ms : List Mom
     | Block_is.same e ↦ F.rewrote k x i o s b runs kind made (replaced_less x.begun i none) (sym e ∙ told)
     | Block_is.replaced r ↦
         absurd (false≢true (sym none ∙ since_now x.begun i m ms r (A.held.begun k x runs)))
-    | Block_is.stored y runs_y next_y is ↦ (let b_is = some_told _ _ b (sym is ∙ told) in
-        let p = made_pin (setup_in u) x i o s kind made in
-        let at_x = subst (λ n. job_of u.jobs n ≡ Some x) (sym (number_of u.jobs k x runs)) runs in
+    | Block_is.stored y runs_y next_y is ↦ (let p = made_pin (setup_in u) x i o s kind made in
+        let at_x = rw (← (number_of u.jobs k x runs)) at runs in
         elim (store_kinds y y.kind i o s refl (is_fair u y (Store i o s) next_y)) [
-          | inl (name, bytes, kind_y, o_is) ↦
-              absurd (pt.unstored limit mark start m ms clean run A U I E X T y name bytes i o s runs_y kind_y
-              next_y o_is (cc ((A.pins.pins k x p.file runs p.pinned).1)))
+          | inl (name, bytes, kind_y, o_is) ↦ absurd (pt.unstored N
+              y name bytes i o s runs_y kind_y next_y o_is (cc ((A.pins.pins k x p.file runs p.pinned).1)))
           | inr (repairs, q) ↦ cc (
-            pt.stored_column limit mark start m ms clean run A U I E X T
-                (rows_right mark start ms F) y i o s b runs_y next_y repairs b_is,
+            pt.stored_column N
+                (rows_right mark start ms F) y i o s b runs_y next_y repairs (some_told _ _ b (sym is ∙ told)),
             objects_are x y o at_x runs_y p q,
           )
         ])
-    | Block_is.scrubbed scrub rest at next_is is ↦
-        pt.no_scrub limit mark start m ms clean run A U I E X T k x runs scrub at
+    | Block_is.scrubbed scrub rest at next_is is ↦ pt.no_scrub N k x runs scrub at
     | Block_is.removed y runs_y next_y ↦ absurd (let p = made_pin (setup_in u) x i o s kind made in
         A.pins.older_free y.number k y x o p.file runs_y (remove_kinds y y.kind i o refl
         (is_fair u y (Remove i o) next_y)) runs p.pinned p.id_is)
   ]
 
   -- after an event what a running repair stored is the file's own, but for replacements
-  pub rewrote_step : (k : ℕ) (j : Job) (i o s : ℕ) (b : Option (List ℕ)) → job_of m.state.jobs k ≡ Some j →
+  rewrote_step : (k : ℕ) (j : Job) (i o s : ℕ) (b : Option (List ℕ)) → job_of m.state.jobs k ≡ Some j →
       j.kind ≡ RepairJob → HasMadeStore (setup_in m.state) j i o s →
       is_replaced_since j.begun i (m ∷ ms) ≡ false →
       told_block m.state i o s ≡ Some b → b ≡ Some (columns (worked_object m.state j o) (m.state.bytes o) i s)
@@ -443,17 +359,13 @@ module _ (limit : ℕ) (mark : Mark) (start : State) (m : Moment) (ms : List Mom
     | Job_is.plain x action runs next_is is_plain goes rec st ↦
         by_place x action runs next_is (cc) goes.pinned goes.flagged goes.begun goes.place st
     | Job_is.drew x runs next_is free is rec ↦ by_place x WriteBody runs next_is (cc) (cc) (cc) (cc) (cc)
-        (λ p q r c e t. absurd (let z : WriteBody ≡ Store p q r = e in cc))
-    | Job_is.finished x a runs next_is flight mine is rec free ↦
-        by_place x SyncGate runs next_is (cc) (cc) (cc) (cc) (cc) (λ p q r c e t. absurd (let z : SyncGate
-        ≡ Store p q r = e in cc))
+        (λ p q r c e t. absurd (cc e))
+    | Job_is.finished x a runs next_is flight mine is rec free ↦ by_place x SyncGate runs next_is (cc) (cc)
+        (cc) (cc) (cc) (λ p q r c e t. absurd (cc e))
   ]
     where
-      setup : setup_in m.state ≡ setup_in u
-      setup = setup_stays limit start m ms A.numbers A.pins X k j h
-
       at_old : slice_get (actions_of (setup_in u) j) made.place ≡ Some (Store i o s)
-      at_old = ap (λ t. slice_get (actions_of t j) made.place) (sym setup) ∙ made.action
+      at_old = ap (λ t. slice_get (actions_of t j) made.place) (sym (same_setup k j h)) ∙ made.action
 
       columns_on : (l : ℕ) (x : Job) → j.pinned ≡ x.pinned → job_of u.jobs l ≡ Some x → HasPin x o →
           b ≡ Some (columns (worked_object u x o) (u.bytes o) i s) →
@@ -462,8 +374,8 @@ module _ (limit : ℕ) (mark : Mark) (start : State) (m : Moment) (ms : List Mom
           subst (λ n. n < next_id u.records) p.id_is (A.pins.pins l x p.file runs p.pinned).0 in
           e ∙ (ap (λ ps. Some (columns (object_among u ps o) (u.bytes o) i s)) (sym pinned)
           ∙ (ap (λ y. Some (columns (object_among u j.pinned o) y i s)) (sym (X.bytes o below))
-          ∙ ap (λ (t : Setup). Some (columns (object_of (profiled t (pinned_profile t.profile j.pinned o)) o)
-          (m.state.bytes o) i s)) (sym setup))))
+          ∙ ap (λ t. Some (columns (object_of (profiled t (pinned_profile t.profile j.pinned o)) o)
+          (m.state.bytes o) i s)) (sym (same_setup k j h)))))
 
       by_place : (x : Job) (action : Action) → job_of u.jobs k ≡ Some x → next_action u x ≡ Some action →
           x.kind ≡ RepairJob → j.pinned ≡ x.pinned → j.flagged ≡ x.flagged → j.begun ≡ x.begun →
@@ -483,7 +395,58 @@ module _ (limit : ℕ) (mark : Mark) (start : State) (m : Moment) (ms : List Mom
                 let next_store : next_action u x ≡ Some (Store i o s) = next_is ∙ ap Some act in
                 let pin : HasPin x o = subst (λ kd. IsFair x kd (Store i o s)) kx (is_fair u x (Store i o s)
                 next_store) in
-                columns_on k x pinned runs pin (pt.stored_column limit mark start m ms clean run A U I E X T
+                columns_on k x pinned runs pin (pt.stored_column N
                 (rows_right mark start ms F) x i o s b (cc (number_of u.jobs k x runs)) next_store kx
                 (stores i o s b act told)))
           ])
+
+  -- one event more, where the mark is such a moment after it
+  pub step : IsMark start (m ∷ ms) (mark (m ∷ ms)) → Facts mark start (m ∷ ms)
+  step moment = record {
+    moment = moment;
+    marked = λ k j h. elim (pins_is limit start m ms A.numbers A.pins X k j h) [
+      | Pins_is.had x runs pinned kind begun g ↦
+          (let e = ap mark (first_had j x begun (A.held.begun k x runs)) in omega (arith, F.marked k x runs))
+      | Pins_is.new_one kd wish is k_is allowed rec ↦
+          (let e = ap mark (first_new j (cc)) in omega (arith, F.moment.before.early))
+    ];
+    reads = λ k j f i s h in_f l b bad. (let setup = same_setup k j h in
+        elim (pins_is limit start m ms A.numbers A.pins X k j h) [
+          | Pins_is.had x runs pinned kind begun g ↦ (let in_x = subst (In f) pinned in_f in
+              let below = (A.pins.pins k x f runs in_x).0 in
+              let n = ev.bounds N f.profile f.id i s setup below l b in
+              subst (λ z. IsReplaced z i (m ∷ ms)) (cc (first_had j x begun (A.held.begun k x runs)))
+              (elim (pt.pinned_bad N (rows_right mark start ms F) k x f i s runs in_x setup bad) [
+                | inl old ↦ since_more (mark_of mark ms x) i m ms (F.reads k x f i s runs in_x n.0 n.1 old)
+                | inr r ↦ since_now (mark_of mark ms x) i m ms r (F.marked k x runs)
+              ]))
+          | Pins_is.new_one kd wish is k_is allowed rec ↦
+              (let st = pinned_stands u kd f (subst (λ x. In f x.pinned) is in_f) in
+              let b_file = subst (λ x. s < stripes_of (profiled (setup_in m.state) x.profile)
+              (length (m.state.bytes x.id))) st.is b in
+              let bad_file = subst (λ x. IsBad m.state x.profile x.id i s) st.is bad in
+              let n = ev.bounds N st.file.profile st.file.id i s setup
+              (file_below A st.name st.file st.in_effect) l b_file in
+              subst (λ z. IsReplaced z i (m ∷ ms)) (sym (ap mark (first_new j (cc))))
+              (elim (pt.file_bad N (rows_right mark start ms F) (λ scrub rest i2 s2 q g at. absurd
+              (some-not-none u.alone (Scrubbing scrub) at (none_lone limit u kd wish allowed)))
+              st.name st.file i s st.in_effect setup bad_file) [
+                | inl old ↦ elim (F.moment.clear st.name st.file i s st.in_effect n.0 n.1 old) [
+                  | inl r ↦ since_more (mark ms) i m ms r
+                  | inr never ↦ absurd never
+                ]
+                | inr r ↦ since_now (mark ms) i m ms r F.moment.before.early
+              ]))
+        ]);
+    counts = λ k j i h. elim (pins_is limit start m ms A.numbers A.pins X k j h) [
+      | Pins_is.had x runs pinned kind begun g ↦ (let e = ap (λ hs. ((now start hs).providers i).other_faults)
+          (first_had j x begun (A.held.begun k x runs)) in let l = F.counts k x i runs in
+          omega (arith, (O.provider i).others))
+      | Pins_is.new_one kd wish is k_is allowed rec ↦
+          (let e = ap (λ hs. ((now start hs).providers i).other_faults) (first_new j (cc)) in
+          omega (arith, (O.provider i).others))
+    ];
+    gave = gave_step;
+    rows = rows_step;
+    rewrote = rewrote_step;
+  }

@@ -1,7 +1,7 @@
 -- What holds of a scrub while it runs, where at most b providers were replaced since the mark at its begin:
 -- it reads new damage alone,
 -- opens each stripe to the file's own symbols, and stores the providers' own columns.
-use Rattle.second_half_laws.proofs.Words.{true, cond, ◌⊎◌, refl, ap, sym, subst, ◌∙◌, inl, inr, arith, IsSome, flat_map, false≢true, Each, In, each_append, each_map, each_flat, each_flat_in, some-not-none, IsShape, upto, Object, symbols_in, columns, is_wrong_block, GivesSymbols, Setup, setup_of, File, Held, FetchGives, Pinned, Given, Fetched, Worked, Action, Store, Fetch, Work, End, on_each_provider, on_each_stripe, open_actions, object_of, profiled, stripes_of, pinned_stripes, State, Scrub, Scrubbing, setup_in, pinned_object, file_in, pinned_file, blocks_given, symbols_given, scrub_actions, scrubbed_object, off_by, scrub_stores, opened_scrub, new_scrub, block_to_scrub, Moment, now, first_moments, is_replacement, Mark, replaced_count, AllTell, found_none, Block_is, Changes, some_told, in_effect_all, setup_same, All, first_more, first_all, valid_shape, shape_in, IsBad, IsReplaced, IsMark}
+use Rattle.second_half_laws.proofs.Words.{true, cond, ◌⊎◌, refl, ap, sym, subst, ◌∙◌, inl, inr, arith, IsSome, flat_map, false≢true, Each, In, each_append, each_map, each_flat, each_flat_in, some-not-none, IsShape, upto, symbols_in, columns, is_wrong_block, GivesSymbols, Setup, setup_of, File, Held, FetchGives, Pinned, Given, Fetched, Worked, Action, Store, Fetch, Work, End, on_each_provider, on_each_stripe, open_actions, object_of, profiled, stripes_of, pinned_stripes, State, Scrub, Scrubbing, setup_in, pinned_object, file_in, pinned_file, blocks_given, symbols_given, scrub_actions, scrubbed_object, off_by, scrub_stores, opened_scrub, new_scrub, block_to_scrub, Moment, now, first_moments, is_replacement, Mark, replaced_count, AllTell, found_none, Block_is, Changes, some_told, in_effect_all, setup_same, All, first_more, first_all, valid_shape, shape_in, IsBad, IsReplaced, IsMark}
 use Rattle.std.proofs.Common.{◌≡◌, ℕ, ◌≤◌, ◌<◌, ◌==◌, Bool, false, List, [], ◌∷◌, length, Option, Some, None}
 use Rattle.machine_defs.proofs.Pins.{Stands}
 use Rattle.run_laws.proofs.InEffect as eff
@@ -39,22 +39,18 @@ all_more t files given g (action ∷ rest) h =
 
 ready_first : (t : Setup) (files : List Pinned) → Each (Ready t files []) (scrub_actions t files)
 ready_first t files =
-    each_append (Ready t files [])
-    (flat_map (λ (f : Pinned). on_each_stripe (profiled t f.profile) (length f.bytes) (open_actions t f.id))
-    files) (End ∷ [])
-    (each_flat_in (Ready t files [])
-    (λ (f : Pinned). on_each_stripe (profiled t f.profile) (length f.bytes) (open_actions t f.id)) files
+    each_append (Ready t files []) (flat_map (λ f. on_each_stripe (profiled t f.profile) (length f.bytes)
+    (open_actions t f.id)) files) (End ∷ []) (each_flat_in (Ready t files [])
+    (λ f. on_each_stripe (profiled t f.profile) (length f.bytes) (open_actions t f.id)) files
     (λ f i. each_flat_in (Ready t files []) (open_actions t f.id) (upto (pinned_stripes t f))
     (λ st l. each_append (Ready t files []) (on_each_provider t (λ j. Fetch j f.id st)) (Work f.id st ∷ [])
     (each_map (Ready t files []) (λ j. Fetch j f.id st) (upto t.n) (λ j. tt))
-    ((f, i, refl, upto_in (pinned_stripes t f) st l), tt))))
-    (tt, tt)
+    ((f, i, refl, upto_in (pinned_stripes t f) st l), tt)))) (tt, tt)
 
 ready_stores : (w : State) (scrub : Scrub) (t : Setup) (given : List Given) (o s : ℕ) (symbols : List ℕ) →
     ((j : ℕ) → Ready t scrub.files given (Store j o s)) →
     Each (Ready t scrub.files given) (scrub_stores w scrub o s symbols)
-ready_stores w scrub t given o s symbols h =
-    each_flat (Ready t scrub.files given)
+ready_stores w scrub t given o s symbols h = each_flat (Ready t scrub.files given)
     (λ j. cond (off_by w scrub o s symbols j == 0) [] (Store j o s ∷ [])) (upto (setup_in w).n)
     (λ j. one (off_by w scrub o s symbols j == 0) (Store j o s) (h j))
   where
@@ -91,26 +87,23 @@ module _ (mark : Mark) (start : State) (ms : List Moment) (A : All start ms) (sc
   -- the object of a file that a scrub works on
   pub object_is : (f : Pinned) → In f scrub.files → scrubbed_object w scrub f.id ≡ pinned_object w f
   object_is f in_f = cc (profile_of (setup_in w).profile scrub.files f in_f
-      (λ g i e. ap (λ (x : Pinned). x.profile) (stands_once w A.pins.sound g f (K.stands g i)
-      (K.stands f in_f) e)))
+      (λ g i e. ap (λ x. x.profile) (stands_once w A.pins.sound g f (K.stands g i) (K.stands f in_f) e)))
 
   -- a scrub stores the provider's own column
   pub right : (f : Pinned) (rest : List Action) (i s : ℕ) → In f scrub.files →
       scrub.todo ≡ Store i f.id s ∷ rest → block_to_scrub w scrub i f.id s ≡ columns (pinned_object w f)
       (w.bytes f.id) i s
-  right f rest i s in_f next_is =
-      (let head = (subst (Each (Ready (setup_in w) scrub.files scrub.given)) next_is K.todo).0 in
+  right f rest i s in_f next_is = (let head = (rw next_is at K.todo).0 in
       let rows = K.rows f s (symbols_given scrub.given f.id s) in_f (given_symbols scrub.given f.id s head.3.0
       head.3.1) in cc (object_is f in_f))
 
   right_in_effect : (rest : List Action) (i s : ℕ) (q : List ℕ) (f : File) →
       scrub.todo ≡ Store i f.id s ∷ rest → file_in w q ≡ Some f → block_to_scrub w scrub i f.id s ≡ columns
       (pinned_object w (pinned_file w f)) (w.bytes f.id) i s
-  right_in_effect rest i s q f next_is in_effect =
-      (let head = (subst (Each (Ready (setup_in w) scrub.files scrub.given)) next_is K.todo).0 in
+  right_in_effect rest i s q f next_is in_effect = (let head = (rw next_is at K.todo).0 in
       let same = stands_once w A.pins.sound head.0 (pinned_file w f) (K.stands head.0 head.1)
       (record { name = q; file = f; in_effect = in_effect; is = refl }) head.2 in
-      right (pinned_file w f) rest i s (subst (λ (x : Pinned). In x scrub.files) same head.1) next_is)
+      right (pinned_file w f) rest i s (rw same at head.1) next_is)
 
 -- where what holds of the running scrub does, its next store is of the provider's own column
 pub scrubs_right : (mark : Mark) (start : State) (ms : List Moment) → All start ms →
@@ -122,7 +115,7 @@ scrubs_right mark start ms A K scrub rest i s q f at next_is in_effect =
 -- the scrub that runs alone
 pub same_scrub : (w : State) (a b : Scrub) → w.alone ≡ Some (Scrubbing a) → w.alone ≡ Some (Scrubbing b) →
     a ≡ b
-same_scrub w a b h g = (let e : Some (Scrubbing a) ≡ Some (Scrubbing b) = sym h ∙ g in cc)
+same_scrub w a b h g = cc (sym h ∙ g)
 
 -- what runs alone stores no block but the provider's own column
 pub stores_own : (mark : Mark) (start : State) (ms : List Moment) (A : All start ms) (scrub : Scrub) →
@@ -132,23 +125,19 @@ pub stores_own : (mark : Mark) (start : State) (ms : List Moment) (A : All start
     block_to_scrub (now start ms) other i f.id s ≡ columns (pinned_object (now start ms) f)
     ((now start ms).bytes f.id) i s
 stores_own mark start ms A scrub at K f i s in_f other rest at_other next_is =
-    (let same = same_scrub (now start ms) scrub other at at_other in
-    cc (right mark start ms A scrub K f rest i s in_f (ap (λ (x : Scrub). x.todo) same ∙ next_is)))
+    (cc (right mark start ms A scrub K f rest i s in_f (ap (λ x. x.todo)
+    (same_scrub (now start ms) scrub other at at_other) ∙ next_is)))
 
 -- what a fetch gave stands for its place under each name of that place
 pub gives_there : (w : State) (scrub : Scrub) (i o s : ℕ) (block : Option (List ℕ)) (f : Pinned) (j t : ℕ)
     (c : List ℕ) → j ≡ i → f.id ≡ o → t ≡ s → Some c ≡ block →
     FetchGives (scrubbed_object w scrub o).profile.size o s (w.providers i).held block ⊎ (block ≡ None) →
     FetchGives (scrubbed_object w scrub f.id).profile.size f.id t (w.providers j).held (Some c)
-gives_there w scrub i o s block f j t c ji fo ts cb (inr gone) =
-    absurd (let z : Some c ≡ None = cb ∙ gone in cc)
-gives_there w scrub i o s block f j t c ji fo ts cb (inl g) =
-    subst (λ n. FetchGives (scrubbed_object w scrub f.id).profile.size f.id t (w.providers n).held (Some c))
-    (sym ji)
+gives_there w scrub i o s block f j t c ji fo ts cb (inr gone) = absurd (cc (cb ∙ gone))
+gives_there w scrub i o s block f j t c ji fo ts cb (inl g) = rw (← ji) at
     (subst (λ n. FetchGives (scrubbed_object w scrub n).profile.size n t (w.providers i).held (Some c))
-    (sym fo)
-    (subst (λ n. FetchGives (scrubbed_object w scrub o).profile.size o n (w.providers i).held (Some c))
-    (sym ts)
+    (sym fo) (subst
+    (λ n. FetchGives (scrubbed_object w scrub o).profile.size o n (w.providers i).held (Some c)) (sym ts)
     (subst (FetchGives (scrubbed_object w scrub o).profile.size o s (w.providers i).held) (sym cb) g)))
 
 module _ (limit : ℕ) (mark : Mark) (start : State) (m : Moment) (ms : List Moment) (A : All start ms)
@@ -187,15 +176,13 @@ module _ (limit : ℕ) (mark : Mark) (start : State) (m : Moment) (ms : List Mom
       block_to_scrub here scrub i f.id s ≡ columns (pinned_object here f) (here.bytes f.id) i s) →
       IsBad m.state f.profile f.id i s → IsBad here f.profile f.id i s ⊎ (is_replacement m.event m.outcome i
       ≡ true)
-  bad_was f i s scrubs (block, told, wrong) =
-      (let w = wrong_old f i s block wrong in
+  bad_was f i s scrubs (block, told, wrong) = (let w = wrong_old f i s block wrong in
       elim (X.block i f.id s) [
         | Block_is.same e ↦ inl (block, sym e ∙ told, w)
         | Block_is.replaced r ↦ inr r
         | Block_is.stored x runs next_is is ↦ absurd (found_none here.jobs x.number x none runs)
-        | Block_is.scrubbed scrub rest at next_is is ↦
-            absurd (right_block (pinned_object here f) (here.bytes f.id) i s
-            (cc (
+        | Block_is.scrubbed scrub rest at next_is is ↦ absurd (right_block (pinned_object here f)
+            (here.bytes f.id) i s (cc (
               some_told (block_to_scrub here scrub i f.id s) (here.providers i).held block (sym is ∙ told),
               scrubs scrub rest at next_is,
             )))
@@ -219,15 +206,14 @@ module _ (limit : ℕ) (mark : Mark) (start : State) (m : Moment) (ms : List Mom
       reads = λ f i s in_f l k bad. subst (λ z. IsReplaced z i (m ∷ ms)) (sym mark_is)
           (read f i s (subst (In f) files in_f) l k bad);
       gave = λ f i s block in_f l k given wrong. subst (λ z. IsReplaced z i (m ∷ ms)) (sym mark_is)
-          (since_more (scrub_mark mark ms scrub) i m ms
-          (gave f i s block (subst (In f) files in_f) (subst (λ (t : Setup). i < t.n) setup l)
-          (subst (λ (t : Setup). s < pinned_stripes t f) setup k) given
+          (since_more (scrub_mark mark ms scrub) i m ms (gave f i s block (subst (In f) files in_f)
+          (subst (λ t. i < t.n) setup l) (subst (λ t. s < pinned_stripes t f) setup k) given
           (wrong_old f i s (Some block) wrong)));
       rows = λ f s symbols in_f given. rows f s symbols (subst (In f) files in_f) given
           ∙ (ap (λ y. symbols_in (pinned_object here f) y s) (sym (bytes_are f.id))
-          ∙ ap (λ (t : Setup). symbols_in (object_of (profiled t f.profile) f.id) (m.state.bytes f.id) s)
+          ∙ ap (λ t. symbols_in (object_of (profiled t f.profile) f.id) (m.state.bytes f.id) s)
           (sym setup));
-      todo = subst (λ (t : Setup). Each (Ready t next.files next.given) next.todo) (sym setup)
+      todo = subst (λ t. Each (Ready t next.files next.given) next.todo) (sym setup)
           (subst (λ fs. Each (Ready (setup_in here) fs next.given) next.todo) (sym files) todo);
     }
       where
@@ -240,8 +226,8 @@ module _ (limit : ℕ) (mark : Mark) (start : State) (m : Moment) (ms : List Mom
         read f i s in_f l k bad =
             elim (bad_was f i s (stores_own mark start ms A scrub at K f i s in_f) bad) [
               | inl old ↦ since_more (scrub_mark mark ms scrub) i m ms
-                  (K.reads f i s in_f (subst (λ (t : Setup). i < t.n) setup l)
-                  (subst (λ (t : Setup). s < pinned_stripes t f) setup k) old)
+                  (K.reads f i s in_f (subst (λ t. i < t.n) setup l)
+                  (subst (λ t. s < pinned_stripes t f) setup k) old)
               | inr r ↦ since_now (scrub_mark mark ms scrub) i m ms r K.marked
             ]
 
@@ -251,7 +237,7 @@ module _ (limit : ℕ) (mark : Mark) (start : State) (m : Moment) (ms : List Mom
         s (here.providers i).held (Some block) → is_wrong_block (pinned_object here f) (here.bytes f.id) i s
         (Some block) ≡ true → IsReplaced (scrub_mark mark ms scrub) i ms
     fetched_wrong f i s block in_f l k gives wrong = by_told (here.providers i).held refl (tell i)
-        (subst (λ (ob : Object). FetchGives ob.profile.size f.id s (here.providers i).held (Some block))
+        (subst (λ ob. FetchGives ob.profile.size f.id s (here.providers i).held (Some block))
         (object_is mark start ms A scrub K f in_f) gives)
       where
         by_told : (held : Option Held) → (here.providers i).held ≡ held → IsSome held →
@@ -271,11 +257,9 @@ module _ (limit : ℕ) (mark : Mark) (start : State) (m : Moment) (ms : List Mom
         symbols → symbols ≡ symbols_in (pinned_object here f) (here.bytes f.id) s
     opened_right calm f s symbols in_f k gives = (let st = K.stands f in_f in
         own_symbols (pinned_object here f) (here.bytes f.id) f.profile s (blocks_given scrub.given
-        (setup_in here).n f.id s) symbols refl shape (subst (λ (y : List ℕ). s < stripes_of
-        (profiled (setup_in here) f.profile) (length y)) (own_bytes here f st) k)
+        (setup_in here).n f.id s) symbols refl shape (rw (own_bytes here f st) at k)
         (few_of here ms (scrub_mark mark ms scrub) scrub.given f s calm (λ i block l given wrong. K.gave f i s
-        block in_f l k given wrong)) (subst (λ (ob : Object). GivesSymbols ob s (blocks_given scrub.given
-        (setup_in here).n f.id s) symbols) (object_is mark start ms A scrub K f in_f) gives))
+        block in_f l k given wrong)) (rw (object_is mark start ms A scrub K f in_f) at gives))
       where
         shape : IsShape (setup_in here).n (setup_in here).l (setup_in here).b
         shape = shape_in here (λ t e. valid_shape t (I.setup t e)) (I.files (K.stands f in_f).name
@@ -284,10 +268,10 @@ module _ (limit : ℕ) (mark : Mark) (start : State) (m : Moment) (ms : List Mom
     went : replaced_count here (scrub_mark mark ms scrub) ms ≤ (setup_in here).b → (next : Scrub) →
         Scrub_goes here m.state scrub next → Scrubbed mark start (m ∷ ms) next
     went calm next (Scrub_goes.stored i o s rest todo is told) =
-        subst (λ (x : Scrub). Scrubbed mark start (m ∷ ms) x) (sym is) (on (record scrub { todo = rest }) refl
+        subst (λ x. Scrubbed mark start (m ∷ ms) x) (sym is) (on (record scrub { todo = rest }) refl
         refl K.gave K.rows (subst (Each (Ready (setup_in here) scrub.files scrub.given)) todo K.todo).1)
     went calm next (Scrub_goes.fetched i o s rest block todo is got) =
-        subst (λ (x : Scrub). Scrubbed mark start (m ∷ ms) x) (sym is)
+        subst (λ x. Scrubbed mark start (m ∷ ms) x) (sym is)
         (on (record scrub { todo = rest; given = Fetched i o s block ∷ scrub.given }) refl refl gave rows
         (all_more (setup_in here) scrub.files scrub.given (Fetched i o s block) rest
         (subst (Each (Ready (setup_in here) scrub.files scrub.given)) todo K.todo).1))
@@ -305,10 +289,10 @@ module _ (limit : ℕ) (mark : Mark) (start : State) (m : Moment) (ms : List Mom
         rows : (f : Pinned) (t : ℕ) (symbols : List ℕ) → In f scrub.files →
             In (Worked f.id t symbols) (Fetched i o s block ∷ scrub.given) →
             symbols ≡ symbols_in (pinned_object here f) (here.bytes f.id) t
-        rows f t symbols in_f (inl e) = absurd (let z : Worked f.id t symbols ≡ Fetched i o s block = e in cc)
+        rows f t symbols in_f (inl e) = absurd (cc e)
         rows f t symbols in_f (inr old) = K.rows f t symbols in_f old
     went calm next (Scrub_goes.worked o s rest symbols todo gives is) =
-        subst (λ (x : Scrub). Scrubbed mark start (m ∷ ms) x) (sym is) (on (opened_scrub here scrub o s rest
+        subst (λ x. Scrubbed mark start (m ∷ ms) x) (sym is) (on (opened_scrub here scrub o s rest
         symbols) refl refl gave rows (each_append (Ready (setup_in here) scrub.files (Worked o s symbols ∷
         scrub.given)) (scrub_stores here scrub o s symbols) rest (ready_stores here scrub (setup_in here)
         (Worked o s symbols ∷ scrub.given) o s symbols (λ j. (head.0, head.1, head.2, (symbols, inl refl))))
@@ -322,8 +306,7 @@ module _ (limit : ℕ) (mark : Mark) (start : State) (m : Moment) (ms : List Mom
             t < pinned_stripes (setup_in here) f → In (Fetched j f.id t (Some c)) (Worked o s symbols ∷
             scrub.given) → is_wrong_block (pinned_object here f) (here.bytes f.id) j t (Some c) ≡ true →
             IsReplaced (scrub_mark mark ms scrub) j ms
-        gave f j t c in_f l k (inl e) wrong =
-            absurd (let z : Fetched j f.id t (Some c) ≡ Worked o s symbols = e in cc)
+        gave f j t c in_f l k (inl e) wrong = absurd (cc e)
         gave f j t c in_f l k (inr old) wrong = K.gave f j t c in_f l k old wrong
 
         -- the file that was opened is that of its number
@@ -332,7 +315,7 @@ module _ (limit : ℕ) (mark : Mark) (start : State) (m : Moment) (ms : List Mom
         opened f t found in_f fo ts fs =
             (let same = stands_once here A.pins.sound head.0 f (K.stands head.0 head.1) (K.stands f in_f)
             (head.2 ∙ sym fo) in let k : s < pinned_stripes (setup_in here) f =
-            subst (λ (x : Pinned). s < pinned_stripes (setup_in here) x) same head.3 in
+            subst (λ x. s < pinned_stripes (setup_in here) x) same head.3 in
             cc (opened_right calm f s symbols in_f k (subst (λ n. GivesSymbols (scrubbed_object here scrub n)
             s (blocks_given scrub.given (setup_in here).n n s) symbols) (sym fo) gives)))
 

@@ -2,7 +2,6 @@
 use Rattle.second_half_laws.proofs.Words.{found_none, true, ◌⊎◌, refl, ap, sym, subst, ◌∙◌, inl, inr, nat_lt, option_map, cases_Bool, and_from, eq-eqb, false≢true, some-not-none, GivesSymbols, Held, Provider, with_block, Stores, FetchGives, PutJob, Job, Fetched, job_of, Action, Store, Fetch, Work, End, Cause, Event, Begin, BeginAt, BeginScrub, BeginPack, Step, Outcome, Refused, Begun, More, Ended, Closed, State, Scrub, Pack, Alone, Scrubbing, Packing, setup_in, with_provider, blocks_given, told_block, cond_true, block_to_scrub, alone_refusal, scrubbed_object, opened_scrub, Scrubs, StepsScrub, Packs, StepsAlone, new_scrub, new_pack, BeginsAlone, Happens, IsLone, none_lone}
 use Rattle.std.proofs.Common.{◌≡◌, ℕ, zero, suc, ◌==◌, Bool, false, List, [], ◌∷◌, Option, Some, None}
 use Rattle.std.specs.Prelude.{length}
-use Rattle.machine_defs.specs.Refusals as refusal
 use Rattle.machine_defs.specs.Answers as answer
 use Rattle.machine_defs.proofs.Cases.{Acting, Cases, by_event}
 
@@ -48,7 +47,7 @@ stored_told providers i o s block p call b told =
     by_held (providers i).held call.held (cc (cond_true (i == i) p (providers i) (eq-eqb i i refl)))
   where
     by_held : (held : Option Held) → p.held ≡ option_map (with_block o s block) held →
-        option_map (λ (h : Held). h o s) p.held ≡ Some b → b ≡ Some block
+        option_map (λ h. h o s) p.held ≡ Some b → b ≡ Some block
     by_held None is t = (let z : None ≡ Some b = cc in cc)
     by_held (Some held) is t = (let z : Some (with_block o s block held o s) ≡ Some b = cc in
         let y : with_block o s block held o s ≡ b = cc in
@@ -67,18 +66,16 @@ module _ (moment : ℕ) (old : State) (lone : IsLone old)
         old.alone ≡ Some (Scrubbing scrub) → scrub.todo ≡ action ∷ rest → Scrubs old scrub action rest r new →
         Result e new
     scrubs scrub (Fetch i o s) rest More new at todo (block, (p, call, is)) =
-        subst (Result e) (sym is) (λ next h. Scrub_is.went scrub at
-        (Scrub_goes.fetched i o s rest block todo (sym (scrub_of _ _ h))
-        (elim call.gives [ inl g ↦ inl g | inr f ↦ inr f.0 ]))
+        subst (Result e) (sym is) (λ next h. Scrub_is.went scrub at (Scrub_goes.fetched i o s rest block todo
+        (sym (scrub_of _ _ h)) (elim call.gives [ inl g ↦ inl g | inr f ↦ inr f.0 ]))
         (record { jobs = refl; records = refl; bytes = refl; doubt = refl; is_open = refl }))
     scrubs scrub (Work o s) rest More new at todo (symbols, gives, is) =
         subst (Result e) (sym is) (λ next h. Scrub_is.went scrub at
         (Scrub_goes.worked o s rest symbols todo gives (sym (scrub_of _ _ h)))
         (record { jobs = refl; records = refl; bytes = refl; doubt = refl; is_open = refl }))
     scrubs scrub (Work o s) rest (Ended (answer.Lost t row)) new at todo (t_is, lost, is) = none e new (cc)
-    scrubs scrub (Store i o s) rest More new at todo (p, call, is) =
-        subst (Result e) (sym is) (λ next h. Scrub_is.went scrub at
-        (Scrub_goes.stored i o s rest todo (sym (scrub_of _ _ h))
+    scrubs scrub (Store i o s) rest More new at todo (p, call, is) = subst (Result e) (sym is)
+        (λ next h. Scrub_is.went scrub at (Scrub_goes.stored i o s rest todo (sym (scrub_of _ _ h))
         (λ c told. stored_told old.providers i o s (block_to_scrub old scrub i o s) p call c told))
         (record { jobs = refl; records = refl; bytes = refl; doubt = refl; is_open = refl }))
     scrubs scrub (Store i o s) rest (Ended (answer.ProviderFault k)) new at todo (k_is, (p, call, is)) =
@@ -95,20 +92,19 @@ module _ (moment : ℕ) (old : State) (lone : IsLone old)
 
     -- a pack stays one, or ends
     packed : (new : State) (pack : Pack) → new.alone ≡ Some (Packing pack) → Result e new
-    packed new pack is next h = absurd (let z : Some (Packing pack) ≡ Some (Scrubbing next) = sym is ∙ h in cc)
+    packed new pack is next h = absurd (cc (sym is ∙ h))
 
     packs : (pack : Pack) (moves : ℕ) (r : Outcome) (new : State) → old.alone ≡ Some (Packing pack) →
         Packs old pack moves r new → Result e new
-    packs pack zero More new at (faults, low, is) = packed new _ (ap (λ (w : State). w.alone) is)
+    packs pack zero More new at (faults, low, is) = packed new _ (ap (λ w. w.alone) is)
     packs pack zero (Ended answer.DiskFault) new at (faults, low, rose, is) = none e new (cc)
     packs pack zero (Ended answer.Memory) new at is = none e new (cc)
-    packs pack (suc zero) More new at (faults, low, is) = packed new _ (ap (λ (w : State). w.alone) is)
+    packs pack (suc zero) More new at (faults, low, is) = packed new _ (ap (λ w. w.alone) is)
     packs pack (suc zero) (Ended answer.DiskFault) new at (faults, low, rose, is) = none e new (cc)
-    packs pack (suc (suc zero)) More new at (faults, low, is) = packed new _ (ap (λ (w : State). w.alone) is)
+    packs pack (suc (suc zero)) More new at (faults, low, is) = packed new _ (ap (λ w. w.alone) is)
     packs pack (suc (suc zero)) (Ended answer.DiskFault) new at (faults, low, rose, is) = none e new (cc)
     packs pack (suc (suc zero)) (Ended answer.Memory) new at is = none e new (cc)
-    packs pack (suc (suc (suc zero))) More new at (faults, low, is) =
-        packed new _ (ap (λ (w : State). w.alone) is)
+    packs pack (suc (suc (suc zero))) More new at (faults, low, is) = packed new _ (ap (λ w. w.alone) is)
     packs pack (suc (suc (suc zero))) (Ended answer.DiskFault) new at (faults, low, rose, is) =
         none e new (cc)
     packs pack (suc (suc (suc (suc zero)))) (Ended (answer.Packed before after)) new at (b, a, is) =
@@ -123,7 +119,7 @@ module _ (moment : ℕ) (old : State) (lone : IsLone old)
   -- a begin of what runs alone
   unbarred : (more : List Cause) → alone_refusal old more ≡ None → old.is_barred ≡ false
   unbarred more h = elim (cases_Bool old.is_barred) [
-    | inl t ↦ absurd (let e = rw t at h in let f : Some refusal.MustReopen ≡ None = e in cc)
+    | inl t ↦ absurd (let e = rw t at h in cc e)
     | inr f ↦ f
   ]
 
@@ -136,10 +132,8 @@ module _ (moment : ℕ) (old : State) (lone : IsLone old)
       nobody (Some x) is = absurd (by_jobs (nat_lt 0 (length old.jobs)) refl)
         where
           by_jobs : (b : Bool) → nat_lt 0 (length old.jobs) ≡ b → ⊥
-          by_jobs true j = (let e = rw (unbarred more h, j) at h in let f : Some refusal.Busy ≡ None = e in
-              cc)
-          by_jobs false j = (let e = rw (unbarred more h, j, is) at h in let f : Some refusal.Busy ≡ None =
-              e in cc)
+          by_jobs true j = (let e = rw (unbarred more h, j) at h in cc e)
+          by_jobs false j = (let e = rw (unbarred more h, j, is) at h in cc e)
 
   -- what runs alone stays so, or a scrub has begun
   unchanged : (new : State) → new ≡ old → Result BeginScrub new
@@ -195,8 +189,7 @@ module _ (moment : ℕ) (old : State) (lone : IsLone old)
     still = λ e r quiet other next h. Scrub_is.kept h (record { jobs = refl; records = refl; bytes = refl; doubt = refl; is_open = refl });
     acts = λ job runs is_open unbarred. acting job runs;
     alone = λ number x r new at is_open unbarred h other. steps_alone (Step number) x r new at h;
-    begins = λ kind is_open allowed other.
-        none (Begin kind) _ (none_lone limit old kind None allowed);
+    begins = λ kind is_open allowed other. none (Begin kind) _ (none_lone limit old kind None allowed);
     begins_at = λ profile name bytes is_open allowed other. none (BeginAt profile name bytes) _
         (none_lone limit old (PutJob name bytes) (Some profile) allowed);
     scrub = λ allowed other. absurd (other refl);
@@ -221,4 +214,4 @@ pub scrub_is : (moment : ℕ) (old : State) → IsLone old →
 scrub_is moment old lone opened limit BeginScrub r new h = begins_scrub moment old lone opened r new h
 scrub_is moment old lone opened limit e r new h = by_event limit moment old
     (λ e r new. (e ≡ BeginScrub → ⊥) → Result moment old lone opened e new)
-    (scrub_cases moment old lone opened limit) e r new h (λ is. (let z : e ≡ BeginScrub = is in cc))
+    (scrub_cases moment old lone opened limit) e r new h (λ is. (cc is))

@@ -1,19 +1,16 @@
 -- The second half of the main theorem.
-use Rattle.second_half_laws.proofs.Words.{true, ◌⊎◌, refl, ap, sym, subst, ◌∙◌, inl, inr, arith, IsTrue, cases_lt, In, some-not-none, upto, stripes, is_wrong_block, count_of, count_of-within, Setup, File, Rose, last_count, Kind, GetJob, Pinned, Job, job_of, Fetch, Work, Answer, Event, Begin, Step, Outcome, Refused, Ended, next_action, object_of, profiled, stripes_of, pinned_stripes, State, Scrub, Scrubbing, IsStart, setup_in, file_object, file_in, pinned_file, block_given, Moment, now, first_moments, is_replaced_since, came, IsRun, Mark, relies, replaced_count, since, IsCalm, MissesNone, NoneMissed, AreScrubsCalm, begun_of, CountRose, GivesOrRose, EndsWell, KeepsSecondHalf, SecondHalf, AllTell, SecondHalfHolds, number_of, found_none, changes, audits, setup_same, all, is_wrong_given, IsFewWrong, event_end, IsLone, HasMade, RoseSince, IsMark, AreMarks, IsLostByFaults, GivesOrIsLost, got_right}
+use Rattle.second_half_laws.proofs.Words.{true, ◌⊎◌, refl, ap, sym, subst, ◌∙◌, inl, inr, arith, IsTrue, cases_lt, In, some-not-none, upto, stripes, is_wrong_block, count_of, count_of-within, Setup, File, Rose, last_count, Kind, GetJob, Pinned, Job, job_of, Fetch, Work, Answer, Event, Begin, Step, Outcome, Refused, Ended, next_action, object_of, profiled, stripes_of, pinned_stripes, State, Scrub, Scrubbing, IsStart, setup_in, file_object, file_in, pinned_file, block_given, Moment, now, first_moments, is_replaced_since, came, IsRun, Mark, relies, replaced_count, since, IsCalm, MissesNone, NoneMissed, AreScrubsCalm, begun_of, CountRose, GivesOrRose, EndsWell, KeepsSecondHalf, SecondHalf, AllTell, SecondHalfHolds, number_of, found_none, setup_same, all, is_wrong_given, IsFewWrong, event_end, IsLone, HasMade, RoseSince, IsMark, AreMarks, IsLostByFaults, GivesOrIsLost, got_right}
 use Rattle.std.proofs.Common.{◌≡◌, ℕ, zero, suc, ◌≤◌, ◌<◌, List, [], ◌∷◌, length, Option, Some, None}
 use Rattle.machine_defs.specs.Answers as answer
-use Rattle.machine_defs.proofs.Numbers as num
-use Rattle.run_laws.proofs.InEffect as eff
 use Rattle.second_half_laws.proofs.GetEnds.{have_files, Get_ends, get_ends, few_give, few_not_lost}
 use Rattle.second_half_laws.proofs.Names.{begins_stored}
 use Rattle.second_half_laws.proofs.Onward.{run_onward, all_tell}
 use Rattle.second_half_laws.proofs.Places.{fetched_before_work, fetched_before_end}
 use Rattle.second_half_laws.proofs.MadeFacts.{given_block, made_fetch_gave}
 use Rattle.second_half_laws.proofs.Walk.{walked}
-use Rattle.second_half_laws.proofs.Turns.{turns}
 use Rattle.second_half_laws.proofs.Blocks.{no_first_file, no_first_due}
 use Rattle.second_half_laws.proofs.MovePlaces.{read_within}
-use Rattle.second_half_laws.proofs.EveryRun.{always}
+use Rattle.second_half_laws.proofs.EveryRun.{always, around}
 use Rattle.second_half_laws.proofs.Points.{Facts, begin_of, mark_of}
 use Rattle.second_half_laws.proofs.Audits.{Audited}
 use Rattle.second_half_laws.proofs.Audits as aud
@@ -81,12 +78,9 @@ pub scrub_on : (limit : ℕ) (mark : Mark) (start : State) (m : Moment) (ms : Li
     AllTell start → IsRun limit start (m ∷ ms) → AreScrubsCalm mark ms → IsMark start ms (mark ms) →
     ((scrub : Scrub) → (now start ms).alone ≡ Some (Scrubbing scrub) → Scrubbed mark start ms scrub) →
     (next : Scrub) → m.state.alone ≡ Some (Scrubbing next) → Scrubbed mark start (m ∷ ms) next
-scrub_on limit mark start m ms clean tell run calm moment K =
-    (let A = all limit start clean ms run.2 in
-    scrubbed_step limit mark start m ms A (eff.facts limit start ms clean run.2)
-    (changes limit (length ms) (now start ms) m.event m.outcome m.state A.numbers.idle run.1)
-    (all_tell limit start ms tell run.2)
-    moment K (calm_scrub mark start clean ms calm) (scrub_was limit start m ms clean run))
+scrub_on limit mark start m ms clean tell run calm moment K = (let N = around limit start m ms clean run in
+    scrubbed_step limit mark start m ms N.facts N.files N.changed (all_tell limit start ms tell run.2) moment
+    K (calm_scrub mark start clean ms calm) (scrub_was limit start m ms clean run))
 
 -- in a run whose scrubs are calm by a mark which at each moment is one
 pub marked_scrubs : (limit : ℕ) (mark : Mark) (start : State) → IsStart start → AllTell start →
@@ -109,35 +103,21 @@ calm_now mark start clean (m ∷ ms) calm k j h reads = calm.0 k j h reads
 facts_step : (limit : ℕ) (mark : Mark) (start : State) (m : Moment) (ms : List Moment) → IsStart start →
     AllTell start → IsRun limit start (m ∷ ms) → IsCalm relies mark ms → Facts mark start ms →
     IsMark start (m ∷ ms) (mark (m ∷ ms)) → Facts mark start (m ∷ ms)
-facts_step limit mark start m ms clean tell run calm F moment =
-    (let A = all limit start clean ms run.2 in
-    let U = num.facts audits limit start clean ms run.2 in
-    let I = eff.facts limit start ms clean run.2 in
-    let E = always limit start clean ms run.2 in
-    let X = changes limit (length ms) (now start ms) m.event m.outcome m.state A.numbers.idle run.1 in
-    let T = turns (now start ms) limit (length ms) m.event m.outcome m.state run.1 in
-    let G = walked (length ms) (now start ms) limit m.event m.outcome m.state A.numbers.idle.lone run.1 in
+facts_step limit mark start m ms clean tell run calm F moment = (let N = around limit start m ms clean run in
+    let G = walked (length ms) (now start ms) limit m.event m.outcome m.state N.facts.numbers.idle.lone run.1
+    in
     let O = run_onward limit start m ms run in
     let told = all_tell limit start ms tell run.2 in
     let quiet = calm_now mark start clean ms calm in
-    record {
-      moment = moment;
-      marked = rd.marked_step limit mark start m ms clean run.2 A U I E F X T G O told quiet;
-      reads = rd.reads_step limit mark start m ms clean run.2 A U I E F X T G O told quiet;
-      counts = rd.counts_step limit mark start m ms clean run.2 A U I E F X T G O told quiet;
-      gave = rd.gave_step limit mark start m ms clean run.2 A U I E F X T G O told quiet;
-      rows = rd.rows_step limit mark start m ms clean run.2 A U I E F X T G O told quiet;
-      rewrote = rd.rewrote_step limit mark start m ms clean run.2 A U I E F X T G O told quiet;
-    })
+    rd.step N F G O told quiet moment)
 
 -- in a run that is calm by a mark
 pub marked_facts : (limit : ℕ) (mark : Mark) (start : State) → IsStart start → AllTell start →
     (ms : List Moment) → IsRun limit start ms → IsCalm relies mark ms → AreMarks mark start ms →
     Facts mark start ms
 marked_facts limit mark start clean tell [] run calm marks = start_facts mark start clean marks
-marked_facts limit mark start clean tell (m ∷ ms) run calm marks =
-    facts_step limit mark start m ms clean tell run calm.1
-    (marked_facts limit mark start clean tell ms run.2 calm.1 marks.1) marks.0
+marked_facts limit mark start clean tell (m ∷ ms) run calm marks = facts_step limit mark start m ms clean tell
+    run calm.1 (marked_facts limit mark start clean tell ms run.2 calm.1 marks.1) marks.0
 
 -- with the begin of the last settled audit as the mark, both
 pub record Both (start : State) (ms : List Moment) : Type 0 where
@@ -150,20 +130,13 @@ both_step : (limit : ℕ) (start : State) (m : Moment) (ms : List Moment) → Is
     IsRun limit start (m ∷ ms) → IsCalm relies (since start) ms → AreScrubsCalm (since start) ms →
     MissesNone start ms m.state (came (now start ms) m.state) → Both start ms → Both start (m ∷ ms)
 both_step limit start m ms clean tell run calm calm_scrubs missed B =
-    (let A = all limit start clean ms run.2 in
-    let U = num.facts audits limit start clean ms run.2 in
-    let I = eff.facts limit start ms clean run.2 in
-    let E = always limit start clean ms run.2 in
-    let X = changes limit (length ms) (now start ms) m.event m.outcome m.state A.numbers.idle run.1 in
-    let T = turns (now start ms) limit (length ms) m.event m.outcome m.state run.1 in
-    let R = scrubs_right (since start) start ms A B.scrubs in
-    let clear = aud.mark_clear limit (since start) start m ms clean run.2 A U I E B.facts R B.audited X T
-    missed B.facts.moment.clear in
+    (let N = around limit start m ms clean run in
+    let R = scrubs_right (since start) start ms N.facts B.scrubs in
+    let clear = aud.mark_clear N B.facts R B.audited missed B.facts.moment.clear in
     record {
       facts = facts_step limit (since start) start m ms clean tell run calm B.facts
           (record { before = (always limit start clean (m ∷ ms) run).mark; clear = clear });
-      audited = aud.audited_step limit (since start) start m ms clean run.2 A U I E B.facts R B.audited X T
-          missed;
+      audited = aud.audited_step N B.facts R B.audited missed;
       scrubs = scrub_on limit (since start) start m ms clean tell run calm_scrubs B.facts.moment B.scrubs;
     })
 
@@ -176,9 +149,8 @@ both limit start clean tell [] run calm scrubs missed = record {
   audited = start_audited start clean;
   scrubs = λ scrub h. absurd (some-not-none _ _ h clean.none_alone);
 }
-both limit start clean tell (m ∷ ms) run calm scrubs missed =
-    both_step limit start m ms clean tell run calm.1 scrubs.1 missed.0
-    (both limit start clean tell ms run.2 calm.1 scrubs.1 missed.1)
+both limit start clean tell (m ∷ ms) run calm scrubs missed = both_step limit start m ms clean tell run calm.1
+    scrubs.1 missed.0 (both limit start clean tell ms run.2 calm.1 scrubs.1 missed.1)
 
 -- the begins of settled audits are marks
 pub are_marks : (limit : ℕ) (start : State) → IsStart start → AllTell start → (ms : List Moment) →
@@ -197,7 +169,7 @@ rose_or_not a b = elim (cases_lt a last_count) [
   | inr k ↦ inl (λ l. omega (arith, k, l))
   | inl k ↦ elim (cases_lt a b) [
     | inl l ↦ inl (λ z. l)
-    | inr l ↦ inr (λ rose. (let g = rose k in omega (arith, g, l)))
+    | inr l ↦ inr (λ rose. (omega (arith, rose k, l)))
   ]
 ]
 
@@ -206,12 +178,12 @@ pub some_rose : (w v : State) (n : ℕ) → ((i : ℕ) × (i < n) × RoseSince w
     ((i : ℕ) → i < n → RoseSince w v i → ⊥)
 some_rose w v zero = inr (λ i l rose. omega (arith, l))
 some_rose w v (suc n) = elim (some_rose w v n) [
-  | inl p ↦ inl (p.0, (let l = p.1 in omega (arith, l)), p.2)
+  | inl p ↦ inl (p.0, (omega (arith, p.1)), p.2)
   | inr none ↦ elim (rose_or_not _ _) [
     | inl rose ↦ inl (n, omega arith, rose)
     | inr other ↦ inr (λ i l rose. elim (cases_lt i n) [
       | inl k ↦ none i k rose
-      | inr k ↦ other (subst (RoseSince w v) (let e : i ≡ n = omega (arith, l, k) in e) rose)
+      | inr k ↦ other (subst (RoseSince w v) (omega (arith, l, k)) rose)
     ])
   ]
 ]
@@ -247,35 +219,31 @@ module _ (limit : ℕ) (mark : Mark) (start : State) (m : Moment) (ms : List Mom
         (length ((begin_of start ms job).bytes file.id)) → ((i : ℕ) → i < (setup_in here).n →
         HasMade (setup_in here) job (Fetch i file.id stripe)) → IsFewWrong (begin_of start ms job) file job
         stripe
-    few none stripe below asked =
-        (let w = count_of-within (is_wrong_given (begin_of start ms job) file job stripe)
-        (λ i. is_replaced_since (mark_of mark ms job) i ms) 0 (setup_in (begin_of start ms job)).n
-        (λ i l wrong. one i (omega (arith, l)) wrong) in
-        let c = calm_now mark start clean ms calm job.number job runs (cc) in
-        let d : count_of (λ i. is_replaced_since (mark_of mark ms job) i ms)
-        (upto (setup_in (begin_of start ms job)).n) ≤ (setup_in (begin_of start ms job)).b =
-        subst (λ (t : Setup). count_of (λ i. is_replaced_since (mark_of mark ms job) i ms) (upto t.n) ≤ t.b)
-        setup c in omega (arith, w, d))
+    few none stripe below asked = (let c = calm_now mark start clean ms calm job.number job runs (cc) in
+        omega (
+          arith,
+          count_of-within (is_wrong_given (begin_of start ms job) file job stripe)
+              (λ i. is_replaced_since (mark_of mark ms job) i ms) 0 (setup_in (begin_of start ms job)).n
+              (λ i l wrong. one i (omega (arith, l)) wrong),
+          (subst (λ (t : Setup). count_of (λ i. is_replaced_since (mark_of mark ms job) i ms) (upto t.n) ≤ t.b)
+              setup c),
+        ))
       where
         one : (i : ℕ) → i < (setup_in (begin_of start ms job)).n →
             is_wrong_given (begin_of start ms job) file job stripe i ≡ true →
             is_replaced_since (mark_of mark ms job) i ms ≡ true
-        one i l wrong = (let k : i < (setup_in here).n = subst (λ (t : Setup). i < t.n) (sym setup) l in
+        one i l wrong = (let k = rw (← setup) at l in
             let g = made_fetch_gave limit start clean ms run.2 job.number job i file.id stripe runs
-            (asked i k) in let given = given_block job.given i file.id stripe g.0 g.1 in
-            let s : stripe < stripes_of (profiled (setup_in here) file.profile) (length (here.bytes file.id))
-            =
-            subst (λ (t : Setup). stripe < stripes_of (profiled t file.profile) (length (here.bytes file.id)))
+            (asked i k) in elim (F.gave job.number job (pinned_file (begin_of start ms job) file) i stripe
+            (block_given job.given file.id stripe i) runs in_file k (subst
+            (λ (t : Setup). stripe < stripes_of (profiled t file.profile) (length (here.bytes file.id)))
             (sym setup) (subst (λ (y : List ℕ). stripe < stripes_of
-            (profiled (setup_in (begin_of start ms job)) file.profile) (length y)) own_bytes below) in
-            let now_wrong : is_wrong_block (file_object here file) (here.bytes file.id) i stripe
-            (block_given job.given file.id stripe i) ≡ true =
-            subst (λ (t : Setup). is_wrong_block (object_of (profiled t file.profile) file.id)
+            (profiled (setup_in (begin_of start ms job)) file.profile) (length y)) own_bytes below))
+            (given_block job.given i file.id stripe g.0 g.1) (subst
+            (λ (t : Setup). is_wrong_block (object_of (profiled t file.profile) file.id)
             (here.bytes file.id) i stripe (block_given job.given file.id stripe i) ≡ true) (sym setup)
             (subst (λ (y : List ℕ). is_wrong_block (file_object (begin_of start ms job) file) y i stripe
-            (block_given job.given file.id stripe i) ≡ true) own_bytes wrong) in
-            elim (F.gave job.number job (pinned_file (begin_of start ms job) file) i stripe
-            (block_given job.given file.id stripe i) runs in_file k s given now_wrong) [
+            (block_given job.given file.id stripe i) ≡ true) own_bytes wrong))) [
               | inl r ↦ r
               | inr q ↦ absurd (none i l q.1)
             ])
@@ -283,10 +251,8 @@ module _ (limit : ℕ) (mark : Mark) (start : State) (m : Moment) (ms : List Mom
     in_stripes : (stripe : ℕ) → (f : Pinned) × In f job.pinned × (f.id ≡ file.id) × (stripe < pinned_stripes
         (setup_in here) f) → stripe < stripes (file_object (begin_of start ms job) file)
         (length ((begin_of start ms job).bytes file.id))
-    in_stripes stripe (f, in_f, id_is, l) = elim (subst (In f) pinned in_f) [
-      | inl e ↦ subst (λ (t : Setup). stripe < stripes_of (profiled t file.profile)
-          (length ((begin_of start ms job).bytes file.id))) setup
-          (subst (λ (x : Pinned). stripe < pinned_stripes (setup_in here) x) e l)
+    in_stripes stripe (f, in_f, id_is, l) = elim (rw pinned at in_f) [
+      | inl e ↦ (rw setup at (subst (λ (x : Pinned). stripe < pinned_stripes (setup_in here) x) e l))
       | inr none ↦ absurd none
     ]
 
@@ -313,22 +279,19 @@ module _ (limit : ℕ) (mark : Mark) (start : State) (m : Moment) (ms : List Mom
     -- a get ends with the bytes in effect at its begin, or is lost so
     ends_sharply : (how : Answer) → m.event ≡ Step job.number → m.outcome ≡ Ended how →
         GivesOrIsLost (begin_of start ms job) m.state name how
-    ends_sharply how event outcome =
-        by_end (get_ends limit start m ms job name (pinned_file (begin_of start ms job) file) how lone run
-        event outcome runs kind pinned)
+    ends_sharply how event outcome = by_end (get_ends limit start m ms job name
+        (pinned_file (begin_of start ms job) file) how lone run event outcome runs kind pinned)
       where
         by_end : Get_ends here job (pinned_file (begin_of start ms job) file) how →
             GivesOrIsLost (begin_of start ms job) m.state name how
-        by_end (Get_ends.with_bytes bytes is) =
-            (let g = got_right limit start m ms job name bytes clean run
+        by_end (Get_ends.with_bytes bytes is) = (let g = got_right limit start m ms job name bytes clean run
             (record { event = event; outcome = outcome ∙ ap Ended is; runs = runs; kind = kind }) in
             record {
               file = g.file;
               in_effect = g.in_effect;
               gives = elim g.right [
                 | inl same ↦ inl (is ∙ ap answer.Got same)
-                | inr forged ↦ absurd
-                    (no_forgery limit mark start ms clean run.2 F
+                | inr forged ↦ absurd (no_forgery limit mark start ms clean run.2 F
                     (calm_now mark start clean ms calm) job.number job name g.file runs kind g.in_effect
                     forged)
               ];
@@ -358,8 +321,7 @@ module _ (limit : ℕ) (mark : Mark) (start : State) (m : Moment) (ms : List Mom
             ∙ ap Ended is) (λ stripe below. few none stripe below (λ i l. fetched_before_end here job name
             (pinned_file (begin_of start ms job) file) stripe i kind (event_end limit (length ms) here m.event
             m.outcome m.state job (answer.Got bytes) (λ h. h) event (outcome ∙ ap Ended is) runs run.1).0
-            in_file (subst (λ (t : Setup). stripe < stripes_of (profiled t file.profile)
-            (length ((begin_of start ms job).bytes file.id))) (sym setup) below) l)))
+            in_file (rw (← setup) at below) l)))
         by_end none (Get_ends.is_lost stripe row is next_is lost) =
             absurd (few_not_lost limit start m ms job name clean run runs kind event file in_effect stripe row
             (outcome ∙ ap Ended is) (few none stripe (in_stripes stripe (read_within here job name file.id
@@ -370,15 +332,12 @@ module _ (limit : ℕ) (mark : Mark) (start : State) (m : Moment) (ms : List Mom
             RoseSince (begin_of start ms job) here i → ⊥) →
             (how ≡ answer.Got ((begin_of start ms job).bytes file.id)) ⊎ CountRose (begin_of start ms job)
             m.state
-        by_rose (inl (i, l, rose)) =
-            inr (inr (
-              i,
-              l,
-              inr (rd.rose_on _ _ _ rose
-                  ((run_onward limit start m ms run).provider i).others),
-            ))
-        by_rose (inr none) = inl
-            (by_end none (get_ends limit start m ms job name
+        by_rose (inl (i, l, rose)) = inr (inr (
+          i,
+          l,
+          inr (rd.rose_on _ _ _ rose ((run_onward limit start m ms run).provider i).others),
+        ))
+        by_rose (inr none) = inl (by_end none (get_ends limit start m ms job name
             (pinned_file (begin_of start ms job) file) how lone run event outcome runs kind pinned))
 
   get_gives : (job : Job) (name : List ℕ) (how : Answer) → job_of here.jobs job.number ≡ Some job →
@@ -432,6 +391,5 @@ half_by_mark limit mark start clean tell (m ∷ ms) run calm marks = (
 
 -- the second half holds of every calm run in which no audit missed damage
 pub second_half : SecondHalfHolds
-second_half limit start ms clean tell run calm scrubs missed =
-    half_by_mark limit (since start) start clean tell ms run calm
-    (are_marks limit start clean tell ms run calm scrubs missed)
+second_half limit start ms clean tell run calm scrubs missed = half_by_mark limit (since start) start clean
+    tell ms run calm (are_marks limit start clean tell ms run calm scrubs missed)

@@ -1,6 +1,6 @@
 -- What a scrub has swept: of a stripe that it has opened and rewritten, each provider holds its own column, or
 -- was replaced since the scrub's begin.
-use Rattle.second_half_laws.proofs.Words.{true, cond, ◌⊎◌, refl, ap, sym, subst, ◌∙◌, inl, inr, arith, flat_map, cases_Bool, eqb-true, false≢true, Each, In, each_append, each_map, each_flat, in_left, in_right, in_flat, upto, profile_of, Object, GivesSymbols, columns, column_of_symbols, length-column_of_symbols, Setup, File, setup_of, Held, sized, FetchGives, Pinned, Fetched, Worked, Action, Store, Fetch, Work, End, on_each_provider, on_each_stripe, open_actions, object_of, profiled, pinned_stripes, State, Scrub, Scrubbing, setup_in, pinned_object, file_in, pinned_file, block_given, blocks_given, scrub_actions, scrubbed_object, differs, off_by, scrub_stores, opened_scrub, new_scrub, block_to_scrub, Moment, now, is_replaced_since, Mark, replaced_count, AllTell, told_block, cond_false, found_none, Block_is, Changes, some_told, differs-none, setup_same, All, replaced_before, IsReplaced}
+use Rattle.second_half_laws.proofs.Words.{true, cond, ◌⊎◌, refl, ap, sym, subst, ◌∙◌, inl, inr, arith, flat_map, cases_Bool, eqb-true, false≢true, Each, In, each_append, each_map, each_flat, in_left, in_right, in_flat, upto, profile_of, Object, GivesSymbols, columns, column_of_symbols, length-column_of_symbols, Setup, File, setup_of, sized, FetchGives, Pinned, Fetched, Worked, Action, Store, Fetch, Work, End, on_each_provider, on_each_stripe, open_actions, object_of, profiled, pinned_stripes, State, Scrub, Scrubbing, setup_in, pinned_object, file_in, pinned_file, block_given, blocks_given, scrub_actions, scrubbed_object, differs, off_by, scrub_stores, opened_scrub, new_scrub, block_to_scrub, Moment, now, is_replaced_since, Mark, replaced_count, AllTell, told_block, cond_false, found_none, Block_is, Changes, some_told, differs-none, setup_same, All, replaced_before, IsReplaced}
 use Rattle.std.proofs.Common.{◌≡◌, ℕ, zero, suc, ◌≤◌, ◌<◌, ◌==◌, Bool, false, List, [], ◌∷◌, ◌++◌, length, Option, Some, None}
 use Rattle.run_laws.proofs.InEffect as eff
 use Rattle.second_half_laws.proofs.Lists.{in_upto}
@@ -37,19 +37,16 @@ opens_on t f = on_each_stripe (profiled t f.profile) (length f.bytes) (open_acti
 first_ended : (t : Setup) (files : List Pinned) → IsEnded (scrub_actions t files)
 unfolding opens_on
 first_ended t files = ended_append (flat_map (opens_on t) files) (End ∷ [])
-    (each_flat NotEnd (opens_on t) files
-    (λ f. each_flat NotEnd (open_actions t f.id) (upto (pinned_stripes t f))
-    (λ st. each_append NotEnd (on_each_provider t (λ j. Fetch j f.id st)) (Work f.id st ∷ [])
-    (each_map NotEnd (λ j. Fetch j f.id st) (upto t.n) (λ j. tt)) (tt, tt))))
-    refl
+    (each_flat NotEnd (opens_on t) files (λ f. each_flat NotEnd (open_actions t f.id)
+    (upto (pinned_stripes t f)) (λ st. each_append NotEnd (on_each_provider t (λ j. Fetch j f.id st))
+    (Work f.id st ∷ []) (each_map NotEnd (λ j. Fetch j f.id st) (upto t.n) (λ j. tt)) (tt, tt)))) refl
 
 first_work : (t : Setup) (files : List Pinned) (f : Pinned) (s : ℕ) → In f files → s < pinned_stripes t f →
     In (Work f.id s) (scrub_actions t files)
 unfolding opens_on
 first_work t files f s in_f l = in_left (flat_map (opens_on t) files) (End ∷ []) (Work f.id s)
-    (in_flat (opens_on t) files f (Work f.id s) in_f
-    (in_flat (open_actions t f.id) (upto (pinned_stripes t f)) s (Work f.id s)
-    (in_upto (pinned_stripes t f) s l)
+    (in_flat (opens_on t) files f (Work f.id s) in_f (in_flat (open_actions t f.id)
+    (upto (pinned_stripes t f)) s (Work f.id s) (in_upto (pinned_stripes t f) s l)
     (in_right (on_each_provider t (λ j. Fetch j f.id s)) (Work f.id s ∷ []) (Work f.id s) (inl refl))))
 
 stores_not_end : (w : State) (scrub : Scrub) (o s : ℕ) (symbols : List ℕ) →
@@ -66,17 +63,16 @@ in_stores : (w : State) (scrub : Scrub) (o s : ℕ) (symbols : List ℕ) (i : �
     (off_by w scrub o s symbols i == 0) ≡ false → In (Store i o s) (scrub_stores w scrub o s symbols)
 in_stores w scrub o s symbols i l off =
     in_flat (λ j. cond (off_by w scrub o s symbols j == 0) [] (Store j o s ∷ [])) (upto (setup_in w).n) i
-    (Store i o s) (in_upto (setup_in w).n i l)
-    (subst (In (Store i o s)) (sym (cond_false (off_by w scrub o s symbols i == 0) [] (Store i o s ∷ []) off))
-    (inl refl))
+    (Store i o s) (in_upto (setup_in w).n i l) (subst (In (Store i o s))
+    (sym (cond_false (off_by w scrub o s symbols i == 0) [] (Store i o s ∷ []) off)) (inl refl))
 
 -- a block of the size is there whole
 sized_is : (size : ℕ) (b : Option (List ℕ)) (c : List ℕ) → sized size b ≡ Some c →
     (b ≡ Some c) × (length c ≡ size)
-sized_is size None c h = absurd (let z : None ≡ Some c = h in cc)
+sized_is size None c h = absurd (cc h)
 sized_is size (Some x) c h = elim (cases_Bool (length x == size)) [
   | inl t ↦ (let z : Some x ≡ Some c = cc in
-      let y : x ≡ c = cc in (ap Some y, cc (eqb-true (length x) size t)))
+      (ap Some cc, cc (eqb-true (length x) size t)))
   | inr f ↦ absurd (let z : None ≡ Some c = cc in cc)
 ]
 
@@ -122,7 +118,7 @@ module _ (limit : ℕ) (mark : Mark) (start : State) (m : Moment) (ms : List Mom
   columns_are : (f : Pinned) (i s : ℕ) → columns (pinned_object here f) (here.bytes f.id) i s ≡ columns
       (pinned_object m.state f) (m.state.bytes f.id) i s
   columns_are f i s = ap (λ y. columns (pinned_object here f) y i s) (sym (bytes_are f.id))
-      ∙ ap (λ (t : Setup). columns (object_of (profiled t f.profile) f.id) (m.state.bytes f.id) i s)
+      ∙ ap (λ t. columns (object_of (profiled t f.profile) f.id) (m.state.bytes f.id) i s)
       (sym setup)
 
   module _ (scrub : Scrub) (at : here.alone ≡ Some (Scrubbing scrub)) (K : Scrubbed mark start ms scrub)
@@ -144,9 +140,8 @@ module _ (limit : ℕ) (mark : Mark) (start : State) (m : Moment) (ms : List Mom
     -- of each block that the event leaves as it was
     abbrev Leaves : List Action → Type 0
     Leaves todo = (f : Pinned) (i s : ℕ) (block : Option (List ℕ)) → In f scrub.files →
-        i < (setup_in here).n → s < pinned_stripes (setup_in here) f →
-        told_block m.state i f.id s ≡ Some block → told_block here i f.id s ≡ Some block →
-        Left todo f i s block
+        i < (setup_in here).n → s < pinned_stripes (setup_in here) f → told_block m.state i f.id s ≡ Some
+        block → told_block here i f.id s ≡ Some block → Left todo f i s block
 
     sweeps : (next : Scrub) → next.files ≡ scrub.files → next.begun ≡ scrub.begun →
         ((f : Pinned) (i s : ℕ) (block : List ℕ) (c : Option (List ℕ)) → In f scrub.files →
@@ -154,16 +149,15 @@ module _ (limit : ℕ) (mark : Mark) (start : State) (m : Moment) (ms : List Mom
         told_block here i f.id s ≡ Some c → Seen f i s block c) → Leaves next.todo → IsEnded next.todo →
         Swept start (m ∷ ms) next
     sweeps next files begun seen left ended = record {
-      all = λ q f h. subst (In (pinned_file m.state f)) (sym files) (subst (λ (x : Pinned). In x scrub.files)
+      all = λ q f h. subst (In (pinned_file m.state f)) (sym files) (subst (λ x. In x scrub.files)
           (file_is f) (C.all q f (cc)));
       seen = λ f i s block c in_f given unreplaced told. see f i s block c (subst (In f) files in_f) given
           (cc) told;
       left = λ f i s block in_f l k told. subst
           (λ n. Own f i s block ⊎
           (IsReplaced n i (m ∷ ms) ⊎ (In (Work f.id s) next.todo ⊎ In (Store i f.id s) next.todo)))
-          (sym begun)
-          (leave f i s block (subst (In f) files in_f) (subst (λ (t : Setup). i < t.n) setup l)
-          (subst (λ (t : Setup). s < pinned_stripes t f) setup k) told);
+          (sym begun) (leave f i s block (subst (In f) files in_f) (subst (λ t. i < t.n) setup l)
+          (subst (λ t. s < pinned_stripes t f) setup k) told);
       ended = ended;
     }
       where
@@ -199,24 +193,29 @@ module _ (limit : ℕ) (mark : Mark) (start : State) (m : Moment) (ms : List Mom
           | Block_is.removed x runs next_is ↦ absurd (found_none here.jobs x.number x none runs)
         ]
 
-    -- where it was left before, with what is still to do
-    left_by : (f : Pinned) (i s : ℕ) (block : Option (List ℕ)) (todo rest : List Action) → In f scrub.files →
-        i < (setup_in here).n → s < pinned_stripes (setup_in here) f → told_block here i f.id s ≡ Some block →
-        scrub.todo ≡ todo → (In (Work f.id s) todo → Left rest f i s block) → (In (Store i f.id s) todo →
-        Left rest f i s block) → Left rest f i s block
-    left_by f i s block todo rest in_f l k old is work store = elim (C.left f i s block in_f l k old) [
+    -- where it was left before, where an action was made and others come into its place
+    left_by : (f : Pinned) (i s : ℕ) (block : Option (List ℕ)) (a : Action) (more rest : List Action) →
+        In f scrub.files → i < (setup_in here).n → s < pinned_stripes (setup_in here) f →
+        told_block here i f.id s ≡ Some block → scrub.todo ≡ a ∷ rest →
+        (Work f.id s ≡ a → Left (more ++ rest) f i s block) →
+        (Store i f.id s ≡ a → Left (more ++ rest) f i s block) → Left (more ++ rest) f i s block
+    left_by f i s block a more rest in_f l k old is work store = elim (C.left f i s block in_f l k old) [
       | inl own ↦ inl (cc (columns_are f i s))
       | inr (inl r) ↦ inr (inl (since_more scrub.begun i m ms r))
-      | inr (inr (inl w)) ↦ work (subst (In (Work f.id s)) is w)
-      | inr (inr (inr st)) ↦ store (subst (In (Store i f.id s)) is st)
+      | inr (inr (inl w)) ↦ elim (subst (In (Work f.id s)) is w)
+          [ inl e ↦ work e | inr h ↦ inr (inr (inl (in_right more rest (Work f.id s) h))) ]
+      | inr (inr (inr st)) ↦ elim (subst (In (Store i f.id s)) is st)
+          [ inl e ↦ store e | inr h ↦ inr (inr (inr (in_right more rest (Store i f.id s) h))) ]
     ]
 
     -- nothing of the scrub changes
     swept_kept : Swept start (m ∷ ms) scrub
-    swept_kept = sweeps scrub refl refl C.seen
-        (λ f i s block in_f l k told old. left_by f i s block scrub.todo scrub.todo in_f l k old refl
-        (λ w. inr (inr (inl w))) (λ st. inr (inr (inr st))))
-        C.ended
+    swept_kept = sweeps scrub refl refl C.seen (λ f i s block in_f l k told old.
+        elim (C.left f i s block in_f l k old) [
+          | inl own ↦ inl (cc (columns_are f i s))
+          | inr (inl r) ↦ inr (inl (since_more scrub.begun i m ms r))
+          | inr (inr h) ↦ inr (inr h)
+        ]) C.ended
 
     swept_stored : (i o s : ℕ) (rest : List Action) → scrub.todo ≡ Store i o s ∷ rest →
         ((c : Option (List ℕ)) → told_block m.state i o s ≡ Some c →
@@ -238,18 +237,10 @@ module _ (limit : ℕ) (mark : Mark) (start : State) (m : Moment) (ms : List Mom
             ∙ columns_are f j t))
 
         leave : Leaves rest
-        leave f j t block in_f l k new old = left_by f j t block (Store i o s ∷ rest) rest in_f l k old todo
-            by_work by_store
-          where
-            by_work : In (Work f.id t) (Store i o s ∷ rest) → Left rest f j t block
-            by_work (inl e) = absurd (let z : Work f.id t ≡ Store i o s = e in cc)
-            by_work (inr h) = inr (inr (inl h))
-
-            by_store : In (Store j f.id t) (Store i o s ∷ rest) → Left rest f j t block
-            by_store (inl e) = (let z : Store j f.id t ≡ Store i o s = e in let ji : j ≡ i = cc in
-                let fo : f.id ≡ o = cc in let ts : t ≡ s = cc in
-                inl (stored_now f j t block in_f ji fo ts (cc) new))
-            by_store (inr h) = inr (inr (inr h))
+        leave f j t block in_f l k new old = left_by f j t block (Store i o s) [] rest in_f l k old todo
+            (λ e. absurd (cc e)) (λ e. (let z : Store j f.id t ≡ Store i o s = e in let ji : j ≡ i = cc in
+            let fo : f.id ≡ o = cc in let ts : t ≡ s = cc in
+            inl (stored_now f j t block in_f ji fo ts (cc) new)))
 
     swept_fetched : (i o s : ℕ) (rest : List Action) (block : Option (List ℕ)) →
         scrub.todo ≡ Fetch i o s ∷ rest → FetchGives (scrubbed_object here scrub o).profile.size o s
@@ -257,7 +248,7 @@ module _ (limit : ℕ) (mark : Mark) (start : State) (m : Moment) (ms : List Mom
         Swept start (m ∷ ms) (record scrub { todo = rest; given = Fetched i o s block ∷ scrub.given })
     swept_fetched i o s rest block todo got = sweeps
         (record scrub { todo = rest; given = Fetched i o s block ∷ scrub.given }) refl refl seen leave
-        (ended_tail (Fetch i o s) rest tt (subst IsEnded todo C.ended))
+        (ended_tail (Fetch i o s) rest tt (rw todo at C.ended))
       where
         seen : (f : Pinned) (j t : ℕ) (c : List ℕ) (d : Option (List ℕ)) → In f scrub.files →
             In (Fetched j f.id t (Some c)) (Fetched i o s block ∷ scrub.given) →
@@ -267,22 +258,13 @@ module _ (limit : ℕ) (mark : Mark) (start : State) (m : Moment) (ms : List Mom
             (let z : Fetched j f.id t (Some c) ≡ Fetched i o s block = e in
             let ji : j ≡ i = cc in let fo : f.id ≡ o = cc in let ts : t ≡ s = cc in
             let cb : Some c ≡ block = cc in let h = telling here j f.id t d told in
-            let gives = subst (λ (held : Option Held). FetchGives (pinned_object here f).profile.size f.id t
-            held (Some c)) h.1 (subst (λ (ob : Object). FetchGives ob.profile.size f.id t
+            let gives = rw h.1 at (subst (λ (ob : Object). FetchGives ob.profile.size f.id t
             (here.providers j).held (Some c)) (object_is mark start ms A scrub K f in_f) (gives_there here
             scrub i o s block f j t c ji fo ts cb got)) in inl (cc))
 
         leave : Leaves rest
-        leave f j t block in_f l k new old = left_by f j t block (Fetch i o s ∷ rest) rest in_f l k old todo
-            by_work by_store
-          where
-            by_work : In (Work f.id t) (Fetch i o s ∷ rest) → Left rest f j t block
-            by_work (inl e) = absurd (let z : Work f.id t ≡ Fetch i o s = e in cc)
-            by_work (inr h) = inr (inr (inl h))
-
-            by_store : In (Store j f.id t) (Fetch i o s ∷ rest) → Left rest f j t block
-            by_store (inl e) = absurd (let z : Store j f.id t ≡ Fetch i o s = e in cc)
-            by_store (inr h) = inr (inr (inr h))
+        leave f j t block in_f l k new old = left_by f j t block (Fetch i o s) [] rest in_f l k old todo
+            (λ e. absurd (cc e)) (λ e. absurd (cc e))
 
     -- a stripe that the scrub opened just now
     module _ (calm : replaced_count here (scrub_mark mark ms scrub) ms ≤ (setup_in here).b) (o s : ℕ)
@@ -291,8 +273,7 @@ module _ (limit : ℕ) (mark : Mark) (start : State) (m : Moment) (ms : List Mom
       seen : (f : Pinned) (j t : ℕ) (c : List ℕ) (d : Option (List ℕ)) → In f scrub.files →
           In (Fetched j f.id t (Some c)) (Worked o s symbols ∷ scrub.given) →
           is_replaced_since scrub.begun j ms ≡ false → told_block here j f.id t ≡ Some d → Seen f j t c d
-      seen f j t c d in_f (inl e) unreplaced told =
-          absurd (let z : Fetched j f.id t (Some c) ≡ Worked o s symbols = e in cc)
+      seen f j t c d in_f (inl e) unreplaced told = absurd (cc e)
       seen f j t c d in_f (inr old) unreplaced told = C.seen f j t c d in_f old unreplaced told
 
       -- a block that does not differ is the provider's own column
@@ -300,9 +281,8 @@ module _ (limit : ℕ) (mark : Mark) (start : State) (m : Moment) (ms : List Mom
           t < pinned_stripes (setup_in here) f → f.id ≡ o → t ≡ s → (off_by here scrub f.id t symbols j == 0)
           ≡ true → is_replaced_since scrub.begun j ms ≡ false → told_block here j f.id t ≡ Some block →
           block ≡ Some (columns (pinned_object here f) (here.bytes f.id) j t)
-      same_block f j t block in_f k fo ts off unreplaced told =
-          by_given (block_given scrub.given f.id t j) refl (eqb-true (off_by here scrub f.id t symbols j) 0
-          off)
+      same_block f j t block in_f k fo ts off unreplaced told = by_given (block_given scrub.given f.id t j)
+          refl (eqb-true (off_by here scrub f.id t symbols j) 0 off)
         where
           own_gives : GivesSymbols (scrubbed_object here scrub f.id) t (blocks_given scrub.given
               (setup_in here).n f.id t) symbols
@@ -314,8 +294,7 @@ module _ (limit : ℕ) (mark : Mark) (start : State) (m : Moment) (ms : List Mom
               (pinned_object here f) (here.bytes f.id) j t
           column_is = cc (
             object_is mark start ms A scrub K f in_f,
-            opened_right limit mark start m ms A I X
-                tell none b scrub at K calm f t symbols in_f k own_gives,
+            opened_right limit mark start m ms A I X tell none b scrub at K calm f t symbols in_f k own_gives,
           )
 
           size_is : length (column_of_symbols (scrubbed_object here scrub f.id) symbols j t) ≡ (pinned_object
@@ -340,8 +319,10 @@ module _ (limit : ℕ) (mark : Mark) (start : State) (m : Moment) (ms : List Mom
               ])
 
       leave : Leaves (scrub_stores here scrub o s symbols ++ rest)
-      leave f j t block in_f l k new old = left_by f j t block (Work o s ∷ rest) (scrub_stores here scrub o s
-          symbols ++ rest) in_f l k old todo by_work by_store
+      leave f j t block in_f l k new old = left_by f j t block (Work o s)
+          (scrub_stores here scrub o s symbols) rest in_f l k old todo
+          (λ e. (let z : Work f.id t ≡ Work o s = e in let fo : f.id ≡ o = cc in let ts : t ≡ s = cc in
+          now_open fo ts)) (λ e. absurd (cc e))
         where
           now_open : f.id ≡ o → t ≡ s → Left (scrub_stores here scrub o s symbols ++ rest) f j t block
           now_open fo ts = elim (cases_Bool (off_by here scrub f.id t symbols j == 0)) [
@@ -355,19 +336,6 @@ module _ (limit : ℕ) (mark : Mark) (start : State) (m : Moment) (ms : List Mom
                 (subst (λ p. In (Store j f.id t) (scrub_stores here scrub p t symbols)) fo
                 (in_stores here scrub f.id t symbols j l off))))))
           ]
-
-          by_work : In (Work f.id t) (Work o s ∷ rest) → Left (scrub_stores here scrub o s symbols ++ rest) f
-              j t block
-          by_work (inl e) = (let z : Work f.id t ≡ Work o s = e in let fo : f.id ≡ o = cc in
-              let ts : t ≡ s = cc in now_open fo ts)
-          by_work (inr h) = inr (inr (inl (in_right (scrub_stores here scrub o s symbols) rest (Work f.id t)
-              h)))
-
-          by_store : In (Store j f.id t) (Work o s ∷ rest) →
-              Left (scrub_stores here scrub o s symbols ++ rest) f j t block
-          by_store (inl e) = absurd (let z : Store j f.id t ≡ Work o s = e in cc)
-          by_store (inr h) = inr (inr (inr (in_right (scrub_stores here scrub o s symbols) rest
-              (Store j f.id t) h)))
 
       swept_worked : Swept start (m ∷ ms) (opened_scrub here scrub o s rest symbols)
       swept_worked = sweeps (opened_scrub here scrub o s rest symbols) refl refl seen leave
@@ -384,13 +352,11 @@ module _ (limit : ℕ) (mark : Mark) (start : State) (m : Moment) (ms : List Mom
         subst (λ (x : Scrub). Swept start (m ∷ ms) x) (sym is) (swept_worked calm o s rest symbols todo gives)
 
   swept_begun : (next : Scrub) → next ≡ new_scrub here (length ms) → Swept start (m ∷ ms) next
-  swept_begun next is = subst (λ (x : Scrub). Swept start (m ∷ ms) x) (sym is) (record {
-    all = λ q f h. subst (λ (x : Pinned). In x (new_scrub here (length ms)).files) (file_is f)
-        (all_pinned here q f (cc));
+  swept_begun next is = subst (λ x. Swept start (m ∷ ms) x) (sym is) (record {
+    all = λ q f h. (rw (file_is f) at (all_pinned here q f (cc)));
     seen = λ f i s block c in_f given unreplaced told. absurd given;
     left = λ f i s block in_f l k told. inr (inr (inl (first_work (setup_in here)
-        (new_scrub here (length ms)).files f s in_f (subst (λ (t : Setup). s < pinned_stripes t f) setup
-        k))));
+        (new_scrub here (length ms)).files f s in_f (rw setup at k))));
     ended = first_ended (setup_in here) (new_scrub here (length ms)).files;
   })
 

@@ -21,10 +21,7 @@ other_without [] n k apart = refl
 other_without (x ∷ js) n k apart = elim (cases_Bool (x.number == n)) [
   | inl t ↦ ap (λ l. job_of l k) (cc) ∙ (other_without js n k apart
       ∙ sym (cond_false _ _ _ (ne_eqb x.number k (λ e. apart (sym e ∙ eqb-true x.number n t)))))
-  | inr f ↦ cc (
-    cond_false _ _ _ f,
-    other_without js n k apart,
-  )
+  | inr f ↦ cc (cond_false _ _ _ f, other_without js n k apart)
 ]
 
 -- an action that is not the last move of an append
@@ -124,7 +121,7 @@ module _ (old : State) where
     none_now append is a h none = some-not-none append a h is
 
     no_sync : (action : Action) → IsNoSync action → action ≡ SyncGate → ⊥
-    no_sync action h e = subst IsNoSync e h
+    no_sync action h e = rw e at h
 
     -- a job goes on and nothing else changes but for devices
     goes_on : (action : Action) (new : State) (y : Job) → next_action old job ≡ Some action →
@@ -144,8 +141,7 @@ module _ (old : State) where
         (new.append ≡ old.append) ⊎ (new.append ≡ None) → WasOpen old new → Turns old new
     ends_so action new next_is gate jobs doubt records audits append is_open = record {
       doubt = λ d h. Doubt_now.kept (sym doubt ∙ h) records;
-      audits = Audits_are.undrawn audits
-          (λ a h none. elim append
+      audits = Audits_are.undrawn audits (λ a h none. elim append
           [ inl e ↦ no_new a (sym e ∙ h) none | inr e ↦ some-not-none new.append a h e ]);
       opened = λ d h. is_open;
       stay = stay_by action new next_is (λ e. inr (gate e)) (left_out new.jobs jobs);
@@ -219,8 +215,7 @@ module _ (old : State) where
       ((k : ℕ) (j : Job) → job_of old.jobs k ≡ Some j → Stay_is old new k j) → Turns old new
   settles_all new doubt audits append stay = record {
     doubt = no_doubt new doubt;
-    audits = Audits_are.undrawn audits
-        (λ a h none. elim append
+    audits = Audits_are.undrawn audits (λ a h none. elim append
         [ inl e ↦ some-not-none new.append a h e | inr e ↦ no_new a (sym e ∙ h) none ]);
     opened = λ d h. absurd (some-not-none new.doubt d h doubt);
     stay = stay;
@@ -268,8 +263,7 @@ module _ (old : State) where
     sets_up_not = λ s why doubt good closed so faults low. failed s doubt faults closed so;
     is_set_up = λ s rs js closed so faults low.
         settles_all _ refl refl (inr refl) (λ k j h. Stay_is.stayed h);
-    replaces = λ e j IsThere changed p still counts call.
-        quiet _ refl refl refl refl same_open (λ k j h. h);
+    replaces = λ e j IsThere changed p still counts call. quiet _ refl refl refl refl same_open (λ k j h. h);
     replaces_not = λ e j IsThere changed p still call. quiet _ refl refl refl refl same_open (λ k j h. h);
     continues = gives_up _ refl refl refl refl refl;
   }

@@ -1,5 +1,5 @@
 -- What each event does to the jobs that run, and to what is in doubt.
-use Rattle.second_half_laws.proofs.Words.{true, refl, ap, sym, subst, ◌∙◌, inl, inr, eq-eqb, is_some-none, GivesSymbols, Setup, SetUp, setup_of, Provider, FailsToGive, Asks, honest_answer, Kind, PutJob, Job, Given, Fetched, Answered, Worked, job_of, with_job, without_job, advanced, advanced_with, Action, WriteBody, SyncBody, WriteGate, SyncGate, Store, Fetch, Ask, Work, Remove, Event, Init, Begin, BeginAt, BeginScrub, BeginPack, Step, Stop, Reopen, Continue, Outcome, Ready, Refused, Opened, Begun, More, Ended, Replaced, NothingHeld, Stopped, Continued, State, Append, Doubt, worked_object, setup_in, with_provider, going_on, beginning, blocks_given, asked_challenge, subject_drawn, taken_out, next_action, holder_of, LeavesDoubt, Happens, steps_aside, IsLone, cond_true, found_with, found_without, found_more, found_none, IsHeldThen, IsStill, Acting, Cases, by_event, IsAnsweredThen}
+use Rattle.second_half_laws.proofs.Words.{true, refl, ap, sym, subst, ◌∙◌, inl, inr, eq-eqb, is_some-none, GivesSymbols, Setup, SetUp, setup_of, Provider, Asks, honest_answer, Kind, PutJob, Job, Given, Fetched, Answered, Worked, job_of, with_job, without_job, advanced, advanced_with, Action, WriteBody, SyncBody, WriteGate, SyncGate, Store, Fetch, Ask, Work, Remove, Event, Init, Begin, BeginAt, BeginScrub, BeginPack, Step, Stop, Reopen, Continue, Outcome, Ready, Refused, Opened, Begun, More, Ended, Replaced, NothingHeld, Stopped, Continued, State, Append, Doubt, worked_object, setup_in, with_provider, going_on, beginning, blocks_given, asked_challenge, subject_drawn, taken_out, next_action, holder_of, LeavesDoubt, Happens, steps_aside, IsLone, cond_true, found_with, found_without, found_more, found_none, IsHeldThen, IsStill, Acting, Cases, by_event, IsAnsweredThen}
 use Rattle.std.proofs.Common.{◌≡◌, ℕ, ◌+◌, ◌==◌, false, List, [], ◌∷◌, ◌++◌, Option, Some, None}
 use Rattle.machine_defs.specs.Refusals as refusal
 use Rattle.machine_defs.specs.Answers as answer
@@ -12,9 +12,8 @@ IsGift old x new (Fetch i o s) gift =
     (block : Option (List ℕ)) × (gift ≡ Fetched i o s block) × IsHeldThen old new x.pinned i o s block
 IsGift old x new (Ask i o r) gift =
     (symbol : Option ℕ) × (gift ≡ Answered i o r symbol) × IsAnsweredThen old x old new i o r symbol
-IsGift old x new (Work o s) gift =
-    (symbols : List ℕ) × (gift ≡ Worked o s symbols) ×
-    GivesSymbols (worked_object old x o) s (blocks_given x.given (setup_in old).n o s) symbols
+IsGift old x new (Work o s) gift = (symbols : List ℕ) × (gift ≡ Worked o s symbols) × GivesSymbols
+    (worked_object old x o) s (blocks_given x.given (setup_in old).n o s) symbols
 IsGift old x new action gift = ⊥
 
 -- an action that gives nothing, draws nothing and puts no record in effect
@@ -62,9 +61,8 @@ pub data Went (moment : ℕ) (old : State) (e : Event) (r : Outcome) (new : Stat
 pub data Doubted (old new : State) (d : Doubt) : Type 0 where
   kept : old.doubt ≡ Some d → new.records ≡ old.records → Doubted old new d
   gated : (x : Job) (a : Append) → job_of old.jobs x.number ≡ Some x → next_action old x ≡ Some WriteGate →
-      old.append ≡ Some a → a.job ≡ x.number →
-      d ≡ record { entry = a.entry; maker = Some (advanced x) } → new.records ≡ old.records →
-      Doubted old new d
+      old.append ≡ Some a → a.job ≡ x.number → d ≡ record { entry = a.entry; maker = Some (advanced x) } →
+      new.records ≡ old.records → Doubted old new d
   set_up : (s : Setup) → d ≡ record { entry = SetUp s; maker = None } → setup_of new.records ≡ None →
       Doubted old new d
 
@@ -96,7 +94,7 @@ module _ (moment : ℕ) (old : State) (e : Event) (r : Outcome) where
   no_jobs new jobs doubt = record { job = λ k j h. absurd (found_none new.jobs k j jobs h); doubt = doubt }
 
   apart : IsStill e r → (k : ℕ) → e ≡ Step k → r ≡ More → ⊥
-  apart still k is more = subst (λ (x : Event). IsStill x More) is (subst (IsStill e) more still)
+  apart still k is more = rw is at (subst (IsStill e) more still)
 
   ends : (new : State) → ((k : ℕ) → e ≡ Step k → r ≡ More → ⊥) → (n : ℕ) → new.jobs ≡ without_job old.jobs n →
       ((d : Doubt) → new.doubt ≡ Some d → Doubted old new d) → Walked moment old e r new
@@ -132,7 +130,7 @@ module _ (moment : ℕ) (old : State) where
         Passed old job action new y → ((d : Doubt) → new.doubt ≡ Some d → Doubted old new d) → Result More new
     goes_on action y new next_is free number jobs passed doubt = record {
       job = λ k j h. elim (found_with old.jobs y k j (cc)) [
-        | inl p ↦ (let at : job.number ≡ k = sym (p.0 ∙ number) in Went.went job action (record {
+        | inl p ↦ (let at = sym (p.0 ∙ number) in Went.went job action (record {
           number = at;
           event = ap Step at;
           outcome = refl;
@@ -142,7 +140,7 @@ module _ (moment : ℕ) (old : State) where
           runs = cc;
           next = next_is;
           unheld = free;
-          passed = subst (λ (z : Job). Passed old job action new z) (sym p.1) passed;
+          passed = rw (← p.1) at passed;
         }))
         | inr q ↦ Went.kept q.1 (λ same m. q.0 (cc))
       ];
@@ -156,10 +154,8 @@ module _ (moment : ℕ) (old : State) where
         a.job ≡ job.number → new.records ≡ old.records →
         new.doubt ≡ Some (record { entry = a.entry; maker = Some (advanced job) }) → (d : Doubt) →
         new.doubt ≡ Some d → Doubted old new d
-    in_doubt a new next_is at mine records doubt d h =
-        (let f : Some (record { entry = a.entry; maker = Some (advanced job) }) ≡ Some d = sym doubt ∙ h in
-        let g : record { entry = a.entry; maker = Some (advanced job) } ≡ d = cc in
-        Doubted.gated job a runs next_is at mine (sym g) records)
+    in_doubt a new next_is at mine records doubt d h = (let f = sym doubt ∙ h in
+        Doubted.gated job a runs next_is at mine (sym cc) records)
 
     abbrev called : Job → ℕ → Provider → State
     called y j p = record (going_on old y) { providers = with_provider old.providers j p }
@@ -170,17 +166,16 @@ module _ (moment : ℕ) (old : State) where
         new.providers ≡ with_provider old.providers j p → IsAnsweredThen old job old new j o round symbol
     answered_by j o round symbol p new call providers = elim call.gives [
       | inl g ↦ inl g
-      | inr f ↦ inr (subst (λ (x : Provider). FailsToGive (old.providers j) symbol x)
-          (sym (ap (λ g. g j) providers ∙ cond_true (j == j) p (old.providers j) (eq-eqb j j refl))) f)
+      | inr f ↦ inr (rw (← (ap (λ g. g j) providers ∙ cond_true (j == j) p (old.providers j)
+          (eq-eqb j j refl))) at f)
     ]
 
     -- an action that is no begin of an append
     makes : (action : Action) (y : Job) (new : State) → next_action old job ≡ Some action → IsNoBody action →
         y.number ≡ job.number → new.jobs ≡ with_job old.jobs y → Passed old job action new y →
         new.doubt ≡ old.doubt → new.records ≡ old.records → Result More new
-    makes action y new next_is plain number jobs passed doubt records =
-        goes_on action y new next_is (unheld old.append action plain) number jobs passed
-        (stay new doubt records)
+    makes action y new next_is plain number jobs passed doubt records = goes_on action y new next_is
+        (unheld old.append action plain) number jobs passed (stay new doubt records)
 
     acts : Acting old job Result
     acts = record {
@@ -241,10 +236,8 @@ module _ (moment : ℕ) (old : State) where
   left_doubt : (s : Setup) (doubt : Option Doubt) (new : State) → LeavesDoubt old s doubt →
       new.records ≡ old.records → (d : Doubt) → doubt ≡ Some d → Doubted old new d
   left_doubt s doubt new (inl is) rec d h = Doubted.kept (sym is ∙ h) rec
-  left_doubt s doubt new (inr (none, is)) rec d h =
-      (let g : Some (record { entry = SetUp s; maker = None }) ≡ Some d = sym is ∙ h in
-      let f : record { entry = SetUp s; maker = None } ≡ d = cc in
-      Doubted.set_up s (sym f) (cc (is_some-none (setup_of old.records) none)))
+  left_doubt s doubt new (inr (none, is)) rec d h = (let g = sym is ∙ h in
+      Doubted.set_up s (sym cc) (cc (is_some-none (setup_of old.records) none)))
 
   -- an event that leaves jobs, records and what is in doubt
   leaves : (e : Event) (r : Outcome) (new : State) → ((k : ℕ) → e ≡ Step k → r ≡ More → ⊥) →

@@ -1,5 +1,5 @@
 -- Puts, repairs and audits have done all by the time of their last record.
-use Rattle.second_half_laws.proofs.Words.{cond, refl, ap, sym, subst, ◌∙◌, arith, slice_get, eq-eqb, ne_eqb, slice_get_within, In, Setup, Record, SetUp, PutDone, AuditDone, RepairDone, PutDoneIn, Kind, PutJob, AuditJob, RepairJob, Given, Answered, Job, job_of, advanced, Action, Store, Ask, Work, End, append_actions, store_actions, repair_actions, ask_actions, actions_of, State, Append, Doubt, IsStart, setup_in, done_record, answer_given, HasSums, Moment, now, IsRun, newest, came, cond_true, cond_false, get_left, by_version, Records_is, changes, contains_in, actions_are, all, run_back, actions_by-advanced, stands_on, stands_later, WasMade}
+use Rattle.second_half_laws.proofs.Words.{cond, refl, ap, sym, subst, ◌∙◌, arith, slice_get, eq-eqb, ne_eqb, slice_get_within, In, Setup, Record, SetUp, AuditDone, RepairDone, Kind, PutJob, AuditJob, RepairJob, Given, Answered, Job, job_of, advanced, Action, Store, Ask, Work, End, append_actions, store_actions, repair_actions, ask_actions, actions_of, State, Append, Doubt, IsStart, setup_in, done_record, answer_given, HasSums, Moment, now, IsRun, newest, came, cond_true, cond_false, get_left, by_version, Records_is, changes, contains_in, actions_are, all, run_back, actions_by-advanced, stands_on, stands_later, WasMade}
 use Rattle.std.proofs.Common.{◌≡◌, ℕ, suc, ◌+◌, ◌<◌, ◌≤◌, ◌==◌, false, List, [], ◌∷◌, ◌++◌, length, Option, Some, None}
 use Rattle.run_laws.proofs.InEffect as eff
 use Rattle.run_laws.proofs.PutBytes.{Stands}
@@ -74,11 +74,11 @@ put_of start ms job id size profile bound kind is low made late own h = absurd h
 put_bound : (t : Setup) (x : Job) (id size profile : ℕ) (kind : Kind) (name bytes : List ℕ) →
     FinalPut t x id size profile kind → kind ≡ PutJob name bytes →
     4 + length (store_actions t x bytes) ≤ x.place
-put_bound t x id size profile kind name bytes h is = (subst (λ k. FinalPut t x id size profile k) is h).3
+put_bound t x id size profile kind name bytes h is = (rw is at h).3
 
 put_moved : (t : Setup) (x : Job) (id size profile : ℕ) (kind : Kind) → FinalPut t x id size profile kind →
     FinalPut t (advanced x) id size profile kind
-put_moved t x id size profile (PutJob name bytes) h = (h.0, h.1, h.2, (let l = h.3 in omega (arith, l)))
+put_moved t x id size profile (PutJob name bytes) h = (h.0, h.1, h.2, (omega (arith, h.3)))
 put_moved t x id size profile kind h = h
 
 -- ---- repairs
@@ -91,10 +91,8 @@ module _ (limit : ℕ) (start : State) (clean : IsStart start) (ms : List Moment
 
   work_made : (job : Job) (o j s : ℕ) → job.kind ≡ RepairJob → (c : WasMade start ms job (Store j o s)) →
       WasMade start c.before c.maker (Work o s)
-  work_made job o j s kind c =
-      (let run_c : IsRun limit start (c.moment ∷ c.before) =
-      run_back limit start c.later (c.moment ∷ c.before) (subst (IsRun limit start) c.split run) in
-      let F = made.facts limit start clean c.before run_c.2 in
+  work_made job o j s kind c = (let F = made.facts limit start clean c.before
+      (run_back limit start c.later (c.moment ∷ c.before) (subst (IsRun limit start) c.split run)).2 in
       let w = (worked_before_store (now start c.before) c.maker j o s (c.same.kind ∙ kind) c.makes.next).0 in
       (F.made c.maker.number c.maker w.place (Work o s) c.makes.runs w.made w.action).0)
 
@@ -104,9 +102,8 @@ module _ (limit : ℕ) (start : State) (clean : IsStart start) (ms : List Moment
   repair_whole job kind late made = record {
     kind = kind;
     subject = refl;
-    rewrote = λ file j stripe in_f k flag l.
-        (let at = store_in_repair (setup_in here) job file j stripe (contains_in job.pinned file in_f) flag k
-        l in
+    rewrote = λ file j stripe in_f k flag l. (let at = store_in_repair (setup_in here) job file j stripe
+        (contains_in job.pinned file in_f) flag k l in
         let early = slice_get_within (repair_actions (setup_in here) job) at.0 (Store j file.id stripe) at.1
         in let stands = of_kind (setup_in here) job RepairJob at.0 (Store j file.id stripe) kind
         (get_left (repair_actions (setup_in here) job) (append_actions ++ End ∷ []) at.0 (Store j file.id
@@ -128,11 +125,11 @@ module _ (limit : ℕ) (start : State) (clean : IsStart start) (ms : List Moment
 
 repair_bound : (t : Setup) (x : Job) (id : ℕ) (kind : Kind) → FinalRepair t x id kind → kind ≡ RepairJob →
     length (repair_actions t x) ≤ x.place
-repair_bound t x id kind h is = (subst (λ k. FinalRepair t x id k) is h).1
+repair_bound t x id kind h is = (rw is at h).1
 
 repair_moved : (t : Setup) (x : Job) (id : ℕ) (kind : Kind) → FinalRepair t x id kind →
     FinalRepair t (advanced x) id kind
-repair_moved t x id RepairJob h = (h.0, (let l = h.1 in omega (arith, l)))
+repair_moved t x id RepairJob h = (h.0, (omega (arith, h.1)))
 repair_moved t x id kind h = h
 
 -- ---- audits
@@ -159,23 +156,21 @@ audit_of : (start : State) (ms : List Moment) (job : Job) (id undecided : ℕ) (
     FinalAudit (setup_in (now start ms)) job id undecided counts kind →
     AuditIsWhole start ms job id undecided counts
 audit_of start ms job id undecided counts bound AuditJob is made came late h =
-    subst (λ n. AuditIsWhole start ms job n undecided counts) h.0
-    (audit_whole start ms job undecided counts is
-    (made_less start ms job bound (4 + length (ask_actions (setup_in (now start ms)) job))
-    (late refl) made) came h.2)
+    subst (λ n. AuditIsWhole start ms job n undecided counts) h.0 (audit_whole start ms job undecided counts
+    is (made_less start ms job bound (4 + length (ask_actions (setup_in (now start ms)) job)) (late refl)
+    made) came h.2)
 audit_of start ms job id undecided counts bound kind is made came late h = absurd h
 
 audit_bound : (t : Setup) (x : Job) (id undecided : ℕ) (counts : List ℕ) (kind : Kind) →
     FinalAudit t x id undecided counts kind → kind ≡ AuditJob → 4 + length (ask_actions t x) ≤ x.place
-audit_bound t x id undecided counts kind h is = (subst (λ k. FinalAudit t x id undecided counts k) is h).1
+audit_bound t x id undecided counts kind h is = (rw is at h).1
 
 audit_moved : (t : Setup) (x : Job) (id undecided : ℕ) (counts : List ℕ) (kind : Kind) →
     FinalAudit t x id undecided counts kind → FinalAudit t (advanced x) id undecided counts kind
 audit_moved t x id undecided counts AuditJob h = (
   h.0,
-  (let l = h.1 in omega (arith, l)),
-  sums_same t x (advanced x)
-      (record { counts = counts; undecided = undecided }) refl refl refl h.2,
+  (omega (arith, h.1)),
+  sums_same t x (advanced x) (record { counts = counts; undecided = undecided }) refl refl refl h.2,
 )
 audit_moved t x id undecided counts kind h = h
 
@@ -193,14 +188,13 @@ came_by olds news = cond (length news == suc (length olds)) (newest news) None
 
 on_top : (olds : List Record) (e r : Record) (news : List Record) → news ≡ e ∷ olds →
     came_by olds news ≡ Some r → e ≡ r
-on_top olds e r news is h = (let f : Some e ≡ Some r =
-    cc (cond_true (length (e ∷ olds) == suc (length olds)) (Some e) None (eq-eqb (suc (length olds))
-    (suc (length olds)) refl)) in cc)
+on_top olds e r news is h = (let f : Some e ≡ Some r = cc (cond_true (length (e ∷ olds) == suc (length olds))
+    (Some e) None (eq-eqb (suc (length olds)) (suc (length olds)) refl)) in cc)
 
 none_came : (olds news : List Record) (r : Record) → (length news ≡ suc (length olds) → ⊥) →
     came_by olds news ≡ Some r → ⊥
-none_came olds news r apart h = (let f : None ≡ Some r =
-    sym (cond_false (length news == suc (length olds)) (newest news) None (ne_eqb _ _ apart)) ∙ h in cc)
+none_came olds news r apart h = cc (sym (cond_false (length news == suc (length olds)) (newest news) None
+    (ne_eqb _ _ apart)) ∙ h)
 
 -- a record that came into effect was in doubt, or is a setup, or a job made its fourth move
 pub came_is : (old new : State) (r : Record) → Records_is old new → came old new ≡ Some r → Came_is old r
@@ -218,8 +212,7 @@ came_is old new r (Records_is.settled_set_up s d in_doubt none_ rec) h =
 -- a put's end is no setup
 no_setup_done : (version id size profile : ℕ) (s : Setup) → SetUp s ≡ done_record version id size profile → ⊥
 no_setup_done version id size profile s is = by_version version id size profile (λ r. SetUp s ≡ r → ⊥)
-    (λ e. (let f : SetUp s ≡ PutDoneIn id size profile = e in cc))
-    (λ e. (let f : SetUp s ≡ PutDone id size = e in cc)) is
+    (λ e. (cc e)) (λ e. (cc e)) is
 
 -- ---- whole
 
@@ -257,8 +250,7 @@ module _ (limit : ℕ) (start : State) (clean : IsStart start) (ms : List Moment
 
   final_of : (a : Append) (x : Job) (k : ℕ) (r : Record) → w.append ≡ Some a → job_of w.jobs k ≡ Some x →
       a.job ≡ k → a.entry ≡ r → Final (setup_in w) x r x.kind
-  final_of a x k r flight runs mine is = subst (λ e. Final (setup_in w) x e x.kind) is (now_facts.flights a x
-      flight (cc))
+  final_of a x k r flight runs mine is = rw is at (now_facts.flights a x flight (cc))
 
   -- an audit whose last record is in flight has made each ask, and has these sums
   pub audit_running : (a : Append) (x : Job) (k id undecided : ℕ) (counts : List ℕ) → w.append ≡ Some a →
@@ -278,14 +270,14 @@ module _ (limit : ℕ) (start : State) (clean : IsStart start) (ms : List Moment
   doubt_put d version id size profile h is own = elim (now_facts.doubt d h) [
     | Standing.bare s entry maker none_ ↦ absurd (no_setup_done version id size profile s (sym entry ∙ is))
     | Standing.by_job x maker done ↦ (let f = final_done (setup_in w) x version id size profile x.kind own
-        (subst (λ e. Final (setup_in w) x e x.kind) is done.final) in (
+        (rw is at done.final) in (
           advanced x,
           maker,
           put_of start ms (advanced x) id size profile x.place x.kind refl (omega arith) (made_advanced start
               ms x d.entry done) (λ name bytes e. put_bound (setup_in w) x id size profile x.kind name bytes f
               e) (λ name bytes e. (done.own name bytes e
-              (let l = put_bound (setup_in w) x id size profile x.kind name bytes f e in
-              omega (arith, l)))) (put_moved (setup_in w) x id size profile x.kind f),
+              (omega (arith, put_bound (setup_in w) x id size profile x.kind name bytes f e))))
+              (put_moved (setup_in w) x id size profile x.kind f),
         ))
   ]
 
@@ -294,7 +286,7 @@ module _ (limit : ℕ) (start : State) (clean : IsStart start) (ms : List Moment
       (job : Job) × (d.maker ≡ Some job) × RepairIsWhole start ms job id
   doubt_repair d id h is = elim (now_facts.doubt d h) [
     | Standing.bare s entry maker none_ ↦ absurd (let e : SetUp s ≡ RepairDone id = sym entry ∙ is in cc)
-    | Standing.by_job x maker done ↦ (let f = subst (λ e. Final (setup_in w) x e x.kind) is done.final in (
+    | Standing.by_job x maker done ↦ (let f = rw is at done.final in (
       advanced x,
       maker,
       repair_of limit start clean ms run (advanced x) id x.place x.kind refl (omega arith)
@@ -308,9 +300,8 @@ module _ (limit : ℕ) (start : State) (clean : IsStart start) (ms : List Moment
       d.entry ≡ AuditDone id undecided counts → (job : Job) × (d.maker ≡ Some job) × AuditIsWhole start ms job
       id undecided counts
   doubt_audit d id undecided counts h is = elim (now_facts.doubt d h) [
-    | Standing.bare s entry maker none_ ↦
-        absurd (let e : SetUp s ≡ AuditDone id undecided counts = sym entry ∙ is in cc)
-    | Standing.by_job x maker done ↦ (let f = subst (λ e. Final (setup_in w) x e x.kind) is done.final in (
+    | Standing.bare s entry maker none_ ↦ absurd (cc (sym entry ∙ is))
+    | Standing.by_job x maker done ↦ (let f = rw is at done.final in (
       advanced x,
       maker,
       audit_of start ms (advanced x) id undecided counts x.place x.kind refl (made_advanced start ms x
@@ -326,9 +317,8 @@ module _ (limit : ℕ) (start : State) (clean : IsStart start) (m : Moment) (ms 
   u = now start ms
 
   came_now : (r : Record) → came u m.state ≡ Some r → Came_is u r
-  came_now r h = (let A = all limit start clean ms run.2 in
-      came_is u m.state r (changes limit (length ms) u m.event m.outcome m.state A.numbers.idle run.1).records
-      h)
+  came_now r h = (came_is u m.state r (changes limit (length ms) u m.event m.outcome m.state
+      (all limit start clean ms run.2).numbers.idle run.1).records h)
 
   -- where a put's last record comes into effect its job has stored each stripe on each provider
   pub came_put : (version id size profile : ℕ) → came u m.state ≡ Some (done_record version id size profile) →
@@ -342,7 +332,7 @@ module _ (limit : ℕ) (start : State) (clean : IsStart start) (m : Moment) (ms 
           put_of start ms x id size profile x.place x.kind refl (omega arith) (made_running limit start clean
               ms run.2 x.number x runs) (λ name bytes e. put_bound (setup_in u) x id size profile x.kind name
               bytes f e) (λ name bytes e. own_stands limit start clean ms run.2 x.number x name bytes runs e
-              (let l = put_bound (setup_in u) x id size profile x.kind name bytes f e in omega (arith, l))) f,
+              (omega (arith, put_bound (setup_in u) x id size profile x.kind name bytes f e))) f,
         ))
     | Came_is.by_doubt d in_doubt is ↦
         (let r = doubt_put limit start clean ms run.2 d version id size profile in_doubt is own in (r.0, r.2))
@@ -353,9 +343,8 @@ module _ (limit : ℕ) (start : State) (clean : IsStart start) (m : Moment) (ms 
   pub came_stands : (later : List Moment) (id size profile : ℕ) → IsRun limit start (later ++ m ∷ ms) →
       (job : Job) (put : PutIsWhole start ms job id size profile) →
       (now start (later ++ m ∷ ms)).bytes id ≡ put.bytes
-  came_stands later id size profile whole_run job put =
-      (stands_later limit start clean id put.bytes later (m ∷ ms) whole_run
-      (stands_on limit start clean id put.bytes m ms run
+  came_stands later id size profile whole_run job put = (stands_later limit start clean id put.bytes later
+      (m ∷ ms) whole_run (stands_on limit start clean id put.bytes m ms run
       (record { below = put.drawn; bytes_are = put.bytes_are }))).bytes_are
 
   -- where a repair's record comes into effect its job has rewritten each file on each flagged provider
@@ -370,7 +359,7 @@ module _ (limit : ℕ) (start : State) (clean : IsStart start) (m : Moment) (ms 
         ))
     | Came_is.by_doubt d in_doubt is ↦
         (let r = doubt_repair limit start clean ms run.2 d id in_doubt is in (r.0, r.2))
-    | Came_is.set_up s is ↦ absurd (let e : RepairDone id ≡ SetUp s = is in cc)
+    | Came_is.set_up s is ↦ absurd (cc is)
   ]
 
   -- where an audit's last record comes into effect its job has made each ask, and has these sums
@@ -382,7 +371,7 @@ module _ (limit : ℕ) (start : State) (clean : IsStart start) (m : Moment) (ms 
         (x, audit_running limit start clean ms run.2 a x x.number id undecided counts flight runs mine is)
     | Came_is.by_doubt d in_doubt is ↦
         (let r = doubt_audit limit start clean ms run.2 d id undecided counts in_doubt is in (r.0, r.2))
-    | Came_is.set_up s is ↦ absurd (let e : AuditDone id undecided counts ≡ SetUp s = is in cc)
+    | Came_is.set_up s is ↦ absurd (cc is)
   ]
 
 -- an action that stood before the place of the job that wrote a record in doubt
@@ -397,6 +386,6 @@ doubt_made limit start clean ms run d job p action h maker l at =
       | Standing.by_job x maker_x done ↦
           (let same : advanced x ≡ job = (let e : Some (advanced x) ≡ Some job = sym maker_x ∙ maker in cc) in
           let place : x.place + 1 ≡ job.place = cc in
-          subst (λ (y : Job). WasMade start ms y action) same (made_advanced start ms x d.entry done p action
+          subst (λ y. WasMade start ms y action) same (made_advanced start ms x d.entry done p action
           (omega (arith, l, place)) (cc)).0)
     ]

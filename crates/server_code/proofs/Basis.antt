@@ -26,8 +26,7 @@ shat_poly (suc i) = times (shat_poly i) (plus (shat_poly i) (1 ∷ []))
 pub value-shat : (i x : ℕ) → value (shat_poly i) x ≡ shat i x
 unfolding shat shat_poly value_over
 value-shat zero x = solve nim_ring (x ∷ []) (o ⊞ (v 0 ⊡ (one ⊞ (v 0 ⊡ o)))) (v 0) refl
-value-shat (suc n) x =
-    value-times nim nim_laws (shat_poly n) (plus (shat_poly n) (1 ∷ [])) x
+value-shat (suc n) x = value-times nim nim_laws (shat_poly n) (plus (shat_poly n) (1 ∷ [])) x
     ∙ ap₂ nim_mul (value-shat n x)
     (value-plus nim nim_laws (shat_poly n) (1 ∷ []) x
     ∙ ap₂ nim_add (value-shat n x) (solve nim_ring (x ∷ []) (one ⊞ (v 0 ⊡ o)) one refl))
@@ -72,10 +71,9 @@ shat_is (suc i) x h =
 -- one more than it is the value at those of the second half
 unfoldable pub are_twiddles : ℕ → ℕ → ℕ → Bool
 are_twiddles zero h b = true
-are_twiddles (suc i) h b =
-    (holds_below (places i) (λ k. byte_shat i (b + k) == twiddle h)
-    && holds_below (places i) (λ k. byte_shat i (b + places i + k) == bit_xor (twiddle h) 1))
-    && (are_twiddles i (2 * h) b && are_twiddles i (2 * h + 1) (b + places i))
+are_twiddles (suc i) h b = (holds_below (places i) (λ k. byte_shat i (b + k) == twiddle h) && holds_below
+    (places i) (λ k. byte_shat i (b + places i + k) == bit_xor (twiddle h) 1)) &&
+    (are_twiddles i (2 * h) b && are_twiddles i (2 * h + 1) (b + places i))
 
 -- the polynomial of coefficients
 pub basis_poly : ℕ → List ℕ → List ℕ
@@ -207,32 +205,26 @@ joined-append n c l r long =
 
 -- what are_twiddles says of a node and of those below
 module _ (i h b : ℕ) (test : are_twiddles (suc i) h b ≡ true) (below : b + places (suc i) ≤ 256) where
-  first : (holds_below (places i) (λ k. byte_shat i (b + k) == twiddle h)
-      && holds_below (places i) (λ k. byte_shat i (b + places i + k) == bit_xor (twiddle h) 1)) ≡ true
-  unfolding are_twiddles
-  first = (and_parts _ _ test).0
-
-  second : (are_twiddles i (2 * h) b && are_twiddles i (2 * h + 1) (b + places i)) ≡ true
-  unfolding are_twiddles
-  second = (and_parts _ _ test).1
-
   pub left_twiddles : are_twiddles i (2 * h) b ≡ true
-  left_twiddles = (and_parts _ _ second).0
+  unfolding are_twiddles
+  left_twiddles = (and_parts _ _ (and_parts _ _ test).1).0
 
   pub right_twiddles : are_twiddles i (2 * h + 1) (b + places i) ≡ true
-  right_twiddles = (and_parts _ _ second).1
+  unfolding are_twiddles
+  right_twiddles = (and_parts _ _ (and_parts _ _ test).1).1
 
   pub left_is : (k : ℕ) → k < places i → shat i (b + k) ≡ twiddle h
+  unfolding are_twiddles
   left_is k l =
+      let each = (and_parts _ _ (and_parts _ _ test).0).0 in
       shat_is i (b + k) (omega (arith, l, below))
-      ∙ eqb-true _ _ (at_each (places i) (λ k. byte_shat i (b + k) == twiddle h) (and_parts _ _ first).0 k l)
+      ∙ eqb-true _ _ (at_each (places i) (λ k. byte_shat i (b + k) == twiddle h) each k l)
 
   pub right_is : (k : ℕ) → k < places i → shat i (b + places i + k) ≡ nim_add (twiddle h) 1
-  unfolding nim_add
-  right_is k l =
-      shat_is i (b + places i + k) (omega (arith, l, below))
-      ∙ eqb-true _ _ (at_each (places i)
-      (λ k. byte_shat i (b + places i + k) == bit_xor (twiddle h) 1) (and_parts _ _ first).1 k l)
+  unfolding nim_add are_twiddles
+  right_is k l = shat_is i (b + places i + k) (omega (arith, l, below))
+      ∙ eqb-true _ _ (at_each (places i) (λ k. byte_shat i (b + places i + k) == bit_xor (twiddle h) 1)
+      (and_parts _ _ (and_parts _ _ test).0).1 k l)
 
 -- the polynomial of the coefficients takes the values
 pub takes_values : (i h b : ℕ) (ys : List ℕ) (k : ℕ) → are_twiddles i h b ≡ true → b + places i ≤ 256 →
@@ -240,8 +232,7 @@ pub takes_values : (i h b : ℕ) (ys : List ℕ) (k : ℕ) → are_twiddles i h 
 unfolding inverse
 takes_values zero h b ys k test below long l =
     let none : k ≡ 0 = omega (arith, l) in basis-zero ys (b + k) ∙ ap (λ j. get_or ys j 0) (sym none)
-takes_values (suc n) h b ys k test below long l =
-    at (cases_lt k (places n))
+takes_values (suc n) h b ys k test below long l = at (cases_lt k (places n))
     (λ less. takes_values n (2 * h) b (take (places n) ys) k (left_twiddles n h b test below)
     (omega (arith, below)) (length-front (places n) ys long) less)
     (λ less. takes_values n (2 * h + 1) (b + places n) (drop (places n) ys) (k - places n)
@@ -281,29 +272,24 @@ takes_values (suc n) h b ys k test below long l =
     all_is : all ≡ low ++ top
     all_is = joined-append m (twiddle h) left right long_left
 
-    value_is : (x : ℕ) → basis (suc n) all x ≡ nim_add
+    value_is : (x s : ℕ) → shat n x ≡ s → basis (suc n) all x ≡ nim_add
         (nim_add (basis n left x) (nim_mul (twiddle h) (nim_add (basis n left x) (basis n right x))))
-        (nim_mul (shat n x) (nim_add (basis n left x) (basis n right x)))
-    value_is x =
-        basis-suc n all x
+        (nim_mul s (nim_add (basis n left x) (basis n right x)))
+    value_is x s factor = basis-suc n all x
         ∙ ap₂ (λ a b. nim_add (basis n a x) (nim_mul (shat n x) (basis n b x)))
         (ap (take m) all_is ∙ take_at low top m long_low) (ap (drop m) all_is ∙ drop_at low top m long_low)
         ∙ ap₂ nim_add
         (basis-plus n left (scale (twiddle h) top) x
         ∙ ap (nim_add (basis n left x)) (basis-scale n (twiddle h) top x
         ∙ ap (nim_mul (twiddle h)) (basis-plus n left right x)))
-        (ap (nim_mul (shat n x)) (basis-plus n left right x))
+        (ap₂ nim_mul factor (basis-plus n left right x))
 
     at : (k < m) ⊎ (m ≤ k) → (k < m → basis n left (b + k) ≡ get_or (take m ys) k 0) →
         (k - m < m → basis n right (b + m + (k - m)) ≡ get_or (drop m ys) (k - m) 0) →
         basis (suc n) all (b + k) ≡ get_or ys k 0
     at (inl less) low_part high_part =
         let x = b + k in
-        value_is x
-        ∙ ap (λ s. nim_add
-        (nim_add (basis n left x) (nim_mul (twiddle h) (nim_add (basis n left x) (basis n right x))))
-        (nim_mul s (nim_add (basis n left x) (basis n right x))))
-        (left_is n h b test below k less)
+        value_is x (twiddle h) (left_is n h b test below k less)
         ∙ solve nim_ring (basis n left x ∷ twiddle h ∷ basis n right x ∷ [])
         ((v 0 ⊞ (v 1 ⊡ (v 0 ⊞ v 2))) ⊞ (v 1 ⊡ (v 0 ⊞ v 2))) (v 0) refl
         ∙ low_part less
@@ -314,11 +300,7 @@ takes_values (suc n) h b ys k test below long l =
         let place : b + k ≡ b + m + j = omega (arith, more) in
         let index : m + j ≡ k = omega (arith, more) in
         let less : j < m = omega (arith, more, l) in
-        value_is x
-        ∙ ap (λ s. nim_add
-        (nim_add (basis n left x) (nim_mul (twiddle h) (nim_add (basis n left x) (basis n right x))))
-        (nim_mul s (nim_add (basis n left x) (basis n right x))))
-        (ap (shat n) place ∙ right_is n h b test below j less)
+        value_is x (nim_add (twiddle h) 1) (ap (shat n) place ∙ right_is n h b test below j less)
         ∙ solve nim_ring (basis n left x ∷ twiddle h ∷ basis n right x ∷ [])
         ((v 0 ⊞ (v 1 ⊡ (v 0 ⊞ v 2))) ⊞ ((v 1 ⊞ one) ⊡ (v 0 ⊞ v 2))) (v 2) refl
         ∙ ap (basis n right) place

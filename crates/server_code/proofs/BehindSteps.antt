@@ -1,7 +1,6 @@
 -- The steps of decoding by the symbols behind the kept ones.
-use Rattle.server_code.proofs.Words.{◌≡◌, ◌≢◌, ◌≤◌, ◌<◌, ◌+◌, ◌-◌, ◌++◌, inr, ℕ, sym, ◌∙◌, ap, subst, refl, arith, List, [], ◌∷◌, length, take, drop, add-one, zero-add, add-zero, range_with_len, drop-append_seam, take_all, length-range_with_len, take-front, v, o, ◌⊞◌, ◌⊡◌, solve, nim, nim_add, nim_mul, nim_laws, nim_ring, value_over, root_times_over, vanish_over, value-vanish, vanish_else, value-trim, value, vanish, trim, root_times, upto, one_not_zero, Each-outside, Apart-range, range_with_len-append}
+use Rattle.server_code.proofs.Words.{◌≡◌, ◌≢◌, ◌≤◌, ◌<◌, ◌+◌, ◌-◌, ◌++◌, inr, ℕ, sym, ◌∙◌, ap, refl, arith, List, [], ◌∷◌, length, take, drop, add-one, zero-add, add-zero, range_with_len, drop-append_seam, take_all, length-range_with_len, take-front, v, o, ◌⊞◌, ◌⊡◌, solve, nim, nim_add, nim_mul, nim_laws, nim_ring, value_over, root_times_over, vanish_over, value-vanish, vanish_else, value-trim, value, vanish, trim, root_times, upto, one_not_zero, Each-outside, range_with_len-append}
 use Rattle.std.proofs.lemmas.List.{length-drop}
-use Rattle.algebra_laws.specs.Field.{Apart}
 
 -- the value of x + r times a polynomial
 pub value-root_times : (r c : ℕ) (p : List ℕ) (x : ℕ) →
@@ -65,8 +64,7 @@ gaps_some keep x h = vanish_else nim nim_laws (upto keep) x one_not_zero
 
 -- a share times what it was divided by
 pub share_is : (d w i g : ℕ) → g ≡ w → nim_mul g i ≡ 1 → nim_mul (nim_mul d i) w ≡ d
-share_is d w i g is one =
-    solve nim_ring (d ∷ i ∷ w ∷ []) ((v 0 ⊡ v 1) ⊡ v 2) (v 0 ⊡ (v 2 ⊡ v 1)) refl ∙
+share_is d w i g is one = solve nim_ring (d ∷ i ∷ w ∷ []) ((v 0 ⊡ v 1) ⊡ v 2) (v 0 ⊡ (v 2 ⊡ v 1)) refl ∙
     cc (is, one, nim_ring.mul_one d)
 
 -- the rest times a polynomial
@@ -78,10 +76,6 @@ rest_product rest items front made whole count keep is_count is_front is x =
     value-trim nim nim_laws (take (count + keep) made) x ∙ is x ∙
     ap (λ p. nim_mul (value p x) (value whole x)) (ap (take count) is_front
     ∙ take-front rest (drop (length rest) items) count (sym is_count))
-
--- the points behind the first are apart
-pub behind_apart : (points : List ℕ) (keep n : ℕ) → points ≡ range_with_len keep n → Apart points
-behind_apart points keep n is = subst (λ (ps : List ℕ). Apart ps) (sym is) (Apart-range keep n)
 
 -- the points behind the first
 pub points_behind : (points : List ℕ) (keep size : ℕ) → points ≡ upto size → keep ≤ size →

@@ -35,9 +35,7 @@ module _ (profile : Profile) (rows block : List ℕ) (keep n : ℕ) (generator :
   -- a codeword has the sums
   pub codeword_extends : IsCodeword profile block → drop keep block ≡ sums rows (take keep block) n
   codeword_extends is =
-      let front : take profile.keep block ≡ take keep block = ap (λ k. take k block) (sym is_keep) in
-      let whole_is : block ≡ take keep block ++ sums rows (take keep block) n =
-      codeword_of_front profile block le is ∙ ap (codeword profile) front ∙ sym made in
-      let count : keep ≡ length (take keep block) = is_keep ∙ sym kept in
-      ap (drop keep) whole_is ∙ ap (λ k. drop k (take keep block ++ sums rows (take keep block) n)) count
+      ap (drop keep)
+      (codeword_of_front profile block le is ∙ ap (λ k. codeword profile (take k block)) (sym is_keep) ∙ sym made)
+      ∙ ap (λ k. drop k (take keep block ++ sums rows (take keep block) n)) (is_keep ∙ sym kept)
       ∙ drop-append_seam (take keep block) (sums rows (take keep block) n)

@@ -91,8 +91,7 @@ module _ (n c : ℕ) (old : List ℕ) (long : length old ≡ n + n) where
   unfolding joined
   all_joined v done = by_halves n v (plus front (scale c (plus front back))) (plus front back) done.long
       (length-even front (scale c (plus front back)) n long_front
-      (length-scale nim nim_laws c (plus front back) ∙ even))
-      even
+      (length-scale nim nim_laws c (plus front back) ∙ even)) even
       (λ k h. done.low k h ∙ sym (get_or-plus front (scale c (plus front back)) k
       ∙ ap₂ nim_add (front_at k h) (get_or-scale c (plus front back) k
       ∙ ap (nim_mul c) (sum k h))))

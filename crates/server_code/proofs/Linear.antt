@@ -39,9 +39,8 @@ codeword_of_front profile block le is =
         (length-range_with_len 0 profile.keep ∙ sym long) (Apart-range 0 profile.keep)
 
     same : (x : ℕ) → value p x ≡ value q x
-    same = same_values nim nim_laws p q
-        (plus_zero nim nim_laws (upto profile.keep) p q (Apart-range 0 profile.keep)
-        (takes_same p q (upto profile.keep) taken)
+    same = same_values nim nim_laws p q (plus_zero nim nim_laws (upto profile.keep) p q
+        (Apart-range 0 profile.keep) (takes_same p q (upto profile.keep) taken)
         (omega (arith, is.degree, length-range_with_len 0 profile.keep))
         (omega (arith, codeword-short profile kept long, length-range_with_len 0 profile.keep)))
 
@@ -54,8 +53,7 @@ present-all (s ∷ block) = let h = present-all block in omega (arith, h)
 -- a block opens to one block
 pub opened_is_one : (profile : Profile) (block a b : List ℕ) → profile.size ≡ profile.keep + 2 * profile.fix →
     Opens profile block a → Opens profile block b → a ≡ b
-opened_is_one profile block a b sizes is_a is_b =
-    is_a.opened_is ∙
+opened_is_one profile block a b sizes is_a is_b = is_a.opened_is ∙
     values_at-same (upto profile.size) is_a.polynomial is_b.polynomial
     (same_values nim nim_laws is_a.polynomial is_b.polynomial
     (unique nim nim_laws is_a.polynomial is_b.polynomial (upto profile.size) (map Some block) profile.keep

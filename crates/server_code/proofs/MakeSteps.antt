@@ -1,5 +1,5 @@
 -- The steps of making the rows of coefficients.
-use Rattle.server_code.proofs.Words.{◌≡◌, ◌≤◌, ◌<◌, ◌+◌, ◌-◌, ◌*◌, ◌++◌, ◌⊎◌, inl, inr, ℕ, suc, List, [], length, take, drop, sym, ap, ◌∙◌, arith, mul-le-mul_right, suc-mul, zero-mul, length-append, drop-append_seam, drop-append-le, take-append-le, take_all, Profile, IsGeneratorRow, row_at, IsGenerator}
+use Rattle.server_code.proofs.Words.{◌≡◌, ◌≤◌, ◌<◌, ◌+◌, ◌-◌, ◌*◌, ◌++◌, ◌⊎◌, inl, inr, ℕ, suc, List, length, take, drop, sym, ap, ◌∙◌, arith, mul-le-mul_right, suc-mul, length-append, drop-append_seam, drop-append-le, take-append-le, take_all, Profile, IsGeneratorRow, row_at}
 use Rattle.std.proofs.Common.{length-drop}
 
 -- the rows of the places from keep on to before a place
@@ -9,19 +9,10 @@ pub record HasRows (profile : Profile) (place : ℕ) (rows : List ℕ) : Type 0 
   pub each : (r : ℕ) → profile.keep + r < place →
       IsGeneratorRow profile (profile.keep + r) (row_at profile.keep rows r)
 
--- no rows
-pub no_rows : (profile : Profile) (place : ℕ) → place ≡ profile.keep → HasRows profile place []
-no_rows profile place is = record {
-  behind = omega arith;
-  full = let e : place - profile.keep ≡ 0 = omega arith in rw e (sym (zero-mul profile.keep));
-  each = λ r h. absurd (omega arith);
-}
-
 -- a row before the last
 row_before : (keep r : ℕ) (rows row : List ℕ) → r * keep + keep ≤ length rows →
     row_at keep (rows ++ row) r ≡ row_at keep rows r
-row_before keep r rows row fits =
-    ap (take keep) (drop-append-le (r * keep) rows row (omega arith)) ∙
+row_before keep r rows row fits = ap (take keep) (drop-append-le (r * keep) rows row (omega arith)) ∙
     take-append-le keep (drop (r * keep) rows) row (omega (arith, length-drop (r * keep) rows))
 
 -- the last row
@@ -37,8 +28,7 @@ last_or_before r n h = grind arith
 
 -- one row more
 pub row_more : (profile : Profile) (place : ℕ) (rows row : List ℕ) → HasRows profile place rows →
-    IsGeneratorRow profile place row →
-    HasRows profile (place + 1) (rows ++ row)
+    IsGeneratorRow profile place row → HasRows profile (place + 1) (rows ++ row)
 row_more profile place rows row has is = record {
   behind = omega (arith, has.behind);
   full = length-append rows row ∙ count;
@@ -68,11 +58,3 @@ row_more profile place rows row has is = record {
         let what : row_at profile.keep (rows ++ row) r ≡ row_at profile.keep rows r =
         row_before profile.keep r rows row fits in
         rw what (has.each r (omega (arith, place_is)))
-
--- all rows
-pub all_rows : (profile : Profile) (place : ℕ) (rows : List ℕ) → place ≡ profile.size →
-    HasRows profile place rows → IsGenerator profile rows
-all_rows profile place rows is has = record {
-  full = has.full ∙ ap (λ n. (n - profile.keep) * profile.keep) is;
-  each = λ r h. has.each r (omega arith);
-}

@@ -2,7 +2,7 @@
 use Rattle.server_code.proofs.Words.{◌≡◌, ◌≤◌, ◌<◌, ℕ, subst, sym, ◌∙◌, ap, refl, arith, List, [], ◌∷◌, Option, Some, None, length, take, map, get_or, fill_by_all, length-range_with_len, length-map-range_with_len, take-map-range_with_len, v, ◌⊞◌, solve, nim, nim_add, nim_laws, nim_ring, Decodes, plus_over, agree_over, is_seen_over, value-plus, length-plus, value, agree, plus, interpolate, upto, values_at, Profile, codeword, differences, IsNear, Opens, OpensToNone, value-kept, codeword-short, opens_itself, equal-added, TakesNear, agree-differences}
 use Rattle.std.specs.Prelude.{IfNone, IfSome, OnSome}
 use Rattle.server_code.proofs.Blocks.{near_opens}
-use Rattle.server_code.proofs.KeyRows.{length-sums}
+use Rattle.server_code.proofs.Halves.{length-even}
 use Rattle.server_code.proofs.Linear.{codeword_of_front}
 
 -- what agrees with the symbols, after the same polynomial was added to both
@@ -11,12 +11,11 @@ agree-added : (p q xs ys : List ℕ) → length ys ≡ length xs →
 unfolding agree_over is_seen_over plus_over
 agree-added p q [] ys even = refl
 agree-added p q (x ∷ xs) [] even = absurd (omega arith)
-agree-added p q (x ∷ xs) (y ∷ ys) even =
-    cc (
-      value-plus nim nim_laws p q x,
-      equal-added y (value p x) (value q x),
-      agree-added p q xs ys (omega arith),
-    )
+agree-added p q (x ∷ xs) (y ∷ ys) even = cc (
+  value-plus nim nim_laws p q x,
+  equal-added y (value p x) (value q x),
+  agree-added p q xs ys (omega arith),
+)
 
 module _ (profile : Profile) (block kept p : List ℕ) (long : length kept ≡ profile.keep)
     (near : IsNear profile block p) where
@@ -37,8 +36,7 @@ module _ (profile : Profile) (block kept p : List ℕ) (long : length kept ≡ p
     near = omega (
       arith,
       near.decodes.near,
-      agree-added p first (upto profile.size) block
-          (near.whole ∙ sym (length-range_with_len 0 profile.size)),
+      agree-added p first (upto profile.size) block (near.whole ∙ sym (length-range_with_len 0 profile.size)),
     );
   }
 
@@ -79,14 +77,10 @@ module _ (profile : Profile) (block kept word : List ℕ) (long : length kept �
   near_both : (p : List ℕ) → IsNear profile block p →
       IsNear profile (plus block word) (plus p (interpolate (upto profile.keep) kept))
   near_both p near = record {
-    whole = length-sums block word
-        (near.whole ∙ sym (ap length is
-        ∙ length-map-range_with_len (value (interpolate (upto profile.keep) kept)) 0 profile.size))
-        ∙ near.whole;
-    decodes =
-        subst (λ (w : List ℕ). Decodes nim (upto profile.size) (plus block w) profile.keep profile.fix
-        (plus p (interpolate (upto profile.keep) kept))) (sym is)
-        (near_sums profile block kept p long near);
+    whole = length-even block word profile.size near.whole (ap length is
+        ∙ length-map-range_with_len (value (interpolate (upto profile.keep) kept)) 0 profile.size);
+    decodes = subst (λ (w : List ℕ). Decodes nim (upto profile.size) (plus block w) profile.keep profile.fix
+        (plus p (interpolate (upto profile.keep) kept))) (sym is) (near_sums profile block kept p long near);
   }
 
   -- where nothing is near the sums, nothing is near the block

@@ -1,25 +1,20 @@
 -- The steps of the products of bytes, and of the products of symbols that are looked up.
-use Rattle.server_code.proofs.Words.{◌≡◌, ℕ, ◌+◌, ◌*◌, ◌/◌, ◌<◌, ◌⊎◌, inl, inr, ◌==◌, true, List, length, map, get_or, set, replicate, bit_and, bit_xor, w8, refl, sym, ap, ap₂, ◌∙◌, arith, eqb-true, and_le_r, ext_get_or, length-map, get_or-map, get_or-set_same, get_or-set_other, add_mul, nim_add, nim_mul, nim_ring, holds_below, at_each, AreLanes, down, looked_up, AreMultiples, Multiples}
+use Rattle.server_code.proofs.Words.{◌≡◌, ℕ, ◌+◌, ◌*◌, ◌/◌, ◌<◌, ◌⊎◌, inl, inr, ◌==◌, List, length, map, get_or, set, replicate, bit_and, bit_xor, w8, refl, sym, ap, ap₂, ◌∙◌, arith, eqb-true, and_le_r, ext_get_or, length-map, get_or-map, get_or-set_same, get_or-set_other, add_mul, nim_add, nim_mul, nim_ring, at_each, AreLanes, down, looked_up, AreMultiples, Multiples}
 use Rattle.std.proofs.lemmas.Simd.{Each1-get_or, below_from_Fits, length-zip2, get_or-zip2, swz_l, length-swz_l}
 use lib.Lanes.{zip2}
 use Rattle.server_code.proofs.MakeSteps.{last_or_before}
 
 -- one product more
 pub steps_more : (out : List ℕ) (step c b from product : ℕ) → b < length out → from ≡ b →
-    product ≡ nim_mul (step * b) c →
-    ((j : ℕ) → j < b → get_or out j 0 ≡ nim_mul (step * j) c) → (j : ℕ) → j < b + 1 →
-    get_or (set out from product) j 0 ≡ nim_mul (step * j) c
+    product ≡ nim_mul (step * b) c → ((j : ℕ) → j < b → get_or out j 0 ≡ nim_mul (step * j) c) → (j : ℕ) →
+    j < b + 1 → get_or (set out from product) j 0 ≡ nim_mul (step * j) c
 steps_more out step c b from product room is_b is before j h = rw is_b (go (last_or_before j b h))
   where
     go : (j ≡ b) ⊎ (j < b) → get_or (set out b product) j 0 ≡ nim_mul (step * j) c
     go (inl e) = rw e (get_or-set_same out b product 0 room ∙ is)
     go (inr less) = get_or-set_other out b j product 0 (omega arith) ∙ before j less
 
--- a byte is the sum of its halves
-halves_test : holds_below 256 (λ b. bit_xor (bit_and b 15) (16 * (b / 16)) == b) ≡ true
-halves_test = refl
-
--- the product of a byte by those of its halves
+-- the product of a byte, which is the sum of its halves, by those of its halves
 pub product_of_halves : (multiples : Multiples) (c b : ℕ) → AreMultiples c multiples → b < 256 →
     bit_xor (get_or multiples.low (bit_and b 15) 0) (get_or multiples.high (b / 16) 0) ≡ nim_mul b c
 unfolding nim_add
@@ -27,7 +22,7 @@ product_of_halves multiples c b are h =
     ap₂ bit_xor (are.low (bit_and b 15) (omega (arith, and_le_r b 15))) (are.high (b / 16) (omega arith)) ∙
     sym (add_mul nim_ring (bit_and b 15) (16 * (b / 16)) c) ∙
     ap (λ n. nim_mul n c)
-    (eqb-true _ _ (at_each 256 (λ b. bit_xor (bit_and b 15) (16 * (b / 16)) == b) halves_test b h))
+    (eqb-true _ _ (at_each 256 (λ b. bit_xor (bit_and b 15) (16 * (b / 16)) == b) refl b h))
 
 -- the products of all lanes
 pub products_of_lanes : (multiples : Multiples) (c : ℕ) (v : List ℕ) → AreMultiples c multiples → AreLanes v →

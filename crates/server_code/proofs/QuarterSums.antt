@@ -1,5 +1,5 @@
 -- A block is a codeword where the coefficients of its quarters add up to 0.
-use Rattle.server_code.proofs.Words.{◌≡◌, ◌≤◌, ◌<◌, ◌+◌, ◌*◌, ◌-◌, ◌++◌, ℕ, zero, suc, true, sym, ap, ap₂, ◌∙◌, refl, arith, add-one, zero-add, zero-mul, suc-mul, add-zero, List, [], ◌∷◌, length, take, drop, replicate, get_or, length-append, ext_get_or, take_at, drop_at, take_all, length-take-le, length-replicate, take-append-le, drop-append-le, drop-take, drop-drop, take-take, fill_by_all, plus_over, zero_add, zero_mul, add_same, get_or-zeros, value-plus, value-times, length-plus, length-scale, length-times, nim, nim_add, nim_mul, product, nim_laws, nim_ring, value, plus, scale, times, Profile, profile_of, codeword, IsCodeword, places, twiddle, joined, parted, inverse, forward, coefficient_sum, level_of, first_of}
+use Rattle.server_code.proofs.Words.{◌≡◌, ◌≤◌, ◌<◌, ◌+◌, ◌*◌, ◌-◌, ◌++◌, ℕ, zero, suc, true, sym, ap, ap₂, ◌∙◌, refl, arith, add-one, zero-add, zero-mul, suc-mul, List, [], ◌∷◌, length, take, drop, replicate, get_or, length-append, ext_get_or, take_at, drop_at, take_all, length-take-le, length-replicate, take-append-le, drop-append-le, drop-take, drop-drop, take-take, fill_by_all, plus_over, zero_add, zero_mul, add_same, get_or-zeros, value-plus, value-times, length-plus, length-scale, length-times, nim, nim_add, nim_mul, product, nim_laws, nim_ring, value, plus, scale, times, Profile, profile_of, codeword, IsCodeword, places, twiddle, joined, parted, inverse, forward, coefficient_sum, level_of, first_of}
 use Rattle.std.proofs.Common.{take-append-drop}
 use Rattle.std.proofs.lemmas.List.{length-drop}
 use Rattle.server_code.proofs.Halves.{get_or-scale, length-even, length-front, length-back}
@@ -10,18 +10,16 @@ use Rattle.server_code.proofs.Linear.{codeword_of_front}
 plus-undo : (p q : List ℕ) → length p ≡ length q → plus (plus p q) q ≡ p
 unfolding plus_over
 plus-undo [] [] even = refl
-plus-undo [] (b ∷ q) even = absurd (omega (arith, even))
-plus-undo (a ∷ p) [] even = refl
 plus-undo (a ∷ p) (b ∷ q) even =
     let rest = plus-undo p q (omega (arith, even)) in
     cc (nim_ring.add_assoc a b b, nim_ring.add_self b, nim_ring.add_zero a, rest)
+plus-undo p q even = absurd (omega (arith, even))
 
 plus-twice : (p q : List ℕ) → length p ≡ length q → plus p (plus p q) ≡ q
 unfolding plus_over
 plus-twice [] [] even = refl
-plus-twice [] (b ∷ q) even = refl
-plus-twice (a ∷ p) [] even = absurd (omega (arith, even))
 plus-twice (a ∷ p) (b ∷ q) even = cc (add_same nim_ring a b, plus-twice p q (omega (arith, even)))
+plus-twice p q even = absurd (omega (arith, even))
 
 plus-same : (p : List ℕ) → plus p p ≡ replicate (length p) 0
 unfolding plus_over
@@ -42,16 +40,13 @@ plus-zeros (suc n) [] long = absurd (omega (arith, long))
 plus-zeros (suc n) (a ∷ p) long = cc (zero_add nim_ring a, plus-zeros n p (omega (arith, long)))
 
 -- coefficients that are 0 have the value 0
-zeros-scale : (n : ℕ) → replicate n 0 ≡ scale 0 (replicate n 0)
-zeros-scale n =
-    ext_get_or 0 (replicate n 0) (scale 0 (replicate n 0)) (sym (length-scale nim nim_laws 0 (replicate n 0)))
-    (λ k h. get_or-zeros n k ∙ sym (get_or-scale 0 (replicate n 0) k
-    ∙ zero_mul nim_ring (get_or (replicate n 0) k 0)))
-
 basis-zeros : (i n x : ℕ) → basis i (replicate n 0) x ≡ 0
 basis-zeros i n x =
-    ap (λ c. basis i c x) (zeros-scale n) ∙ basis-scale i 0 (replicate n 0) x
-    ∙ zero_mul nim_ring (basis i (replicate n 0) x)
+    let zeros = replicate n 0 in
+    ap (λ c. basis i c x)
+    (ext_get_or 0 zeros (scale 0 zeros) (sym (length-scale nim nim_laws 0 zeros))
+    (λ k h. get_or-zeros n k ∙ sym (get_or-scale 0 zeros k ∙ zero_mul nim_ring (get_or zeros k 0))))
+    ∙ basis-scale i 0 zeros x ∙ zero_mul nim_ring (basis i zeros x)
 
 -- parting is undone by joining
 length-parted : (n c : ℕ) (v : List ℕ) → length v ≡ n + n → length (parted n c v) ≡ n + n
@@ -121,8 +116,7 @@ quarter n q block = take n (drop (q * n) block)
 
 -- a quarter of a block that is long enough
 length-quarter : (n q : ℕ) (block : List ℕ) → (q + 1) * n ≤ length block → length (quarter n q block) ≡ n
-length-quarter n q block room =
-    length-take-le n (drop (q * n) block)
+length-quarter n q block room = length-take-le n (drop (q * n) block)
     (omega (arith, room, length-drop (q * n) block, add-one q, suc-mul q n))
 
 -- as many sums as a quarter has symbols
@@ -184,28 +178,9 @@ top_half i h ys long =
     (length-even l (scale (twiddle h) (plus l r)) n long_l
     (length-scale nim nim_laws (twiddle h) (plus l r) ∙ top))
 
--- a block that is the values of a polynomial
-from_polynomial : (profile : Profile) (p block : List ℕ) → length block ≡ profile.size →
-    length p ≤ profile.keep →
-    ((k : ℕ) → k < profile.size → get_or block k 0 ≡ value p k) → IsCodeword profile block
-from_polynomial profile p block long short each = record {
-  polynomial = p;
-  degree = short;
-  values = fill_by_all (value p) block profile.size 0 long each;
-}
-
 -- the coefficients of a quarter
 abbrev quarter_coefficients : ℕ → ℕ → ℕ → List ℕ → List ℕ
 quarter_coefficients i g q block = inverse i (g + q) (quarter (places i) q block)
-
--- one quarter
-coefficient_sum-one : (i g : ℕ) (block : List ℕ) → places i ≤ length block →
-    coefficient_sum i g 1 block ≡ quarter_coefficients i g 0 block
-unfolding coefficient_sum
-coefficient_sum-one i g block room =
-    plus-zeros (places i) (quarter_coefficients i g 0 block)
-    (length-inverse i (g + 0) (quarter (places i) 0 block)
-    (length-quarter (places i) 0 block (omega (arith, room))))
 
 -- four parts
 coefficient_sum-four : (i g : ℕ) (block : List ℕ) → places i ≤ length block → coefficient_sum i g 4 block
@@ -213,40 +188,37 @@ coefficient_sum-four : (i g : ℕ) (block : List ℕ) → places i ≤ length bl
     (plus (quarter_coefficients i g 2 block) (quarter_coefficients i g 3 block))
 unfolding coefficient_sum
 coefficient_sum-four i g block room =
+    let first = quarter_coefficients i g 0 block in
     let second = quarter_coefficients i g 1 block in
     let third = quarter_coefficients i g 2 block in
     let fourth = quarter_coefficients i g 3 block in
-    ap (λ t. plus (plus (plus t second) third) fourth) (coefficient_sum-one i g block room)
-    ∙ plus-assoc (plus (quarter_coefficients i g 0 block) second) third fourth
+    ap (λ t. plus (plus (plus t second) third) fourth)
+    (plus-zeros (places i) first
+    (length-inverse i (g + 0) (quarter (places i) 0 block)
+    (length-quarter (places i) 0 block (omega (arith, room)))))
+    ∙ plus-assoc (plus first second) third fourth
 
--- the coefficients of a quarter under its node, the first and a later one
-first_top : (i g h : ℕ) (block ys : List ℕ) → g ≡ h → ys ≡ take (places i) block →
-    quarter_coefficients i g 0 block ≡ inverse i h ys
-first_top i g h block ys same is =
-    ap₂ (λ a m. inverse i a (take (places i) (drop m block))) (add-zero g ∙ same) (zero-mul (places i))
-    ∙ ap (inverse i h) (sym is)
+-- the quarters of the blocks of a profile: their level, and the node over the first
+pub record AreQuarters (size keep level first : ℕ) : Type 0 where
+  pub size_is : size ≡ 4 * places level
+  pub keep_is : keep ≡ 3 * places level
+  pub codewords : (profile : Profile) (block : List ℕ) → profile.size ≡ size → profile.keep ≡ keep →
+      length block ≡ size → coefficient_sum level first 4 block ≡ replicate (places level) 0 →
+      IsCodeword profile block
 
-later_top : (i g q h : ℕ) (block ys : List ℕ) → g + q ≡ h →
-    ys ≡ take (places i) (drop (q * places i) block) → quarter_coefficients i g q block ≡ inverse i h ys
-later_top i g q h block ys same is = ap₂ (inverse i) same (sym is)
-
-module _ (i h : ℕ) (block : List ℕ) (test : are_twiddles (suc i) h 0 ≡ true) (below : places (suc i) ≤ 256)
-    (long : length block ≡ places (suc i)) where
-  -- the symbols of a block by its coefficients
-  symbols : (k : ℕ) → k < places (suc i) → get_or block k 0 ≡ basis (suc i) (inverse (suc i) h block) k
-  symbols k less =
-      sym (ap (basis (suc i) (inverse (suc i) h block)) (sym (zero-add k))
-      ∙ takes_values (suc i) h 0 block k test (omega (arith, below)) long less)
-
-module _ (i h : ℕ) (block : List ℕ) (test : are_twiddles (suc (suc i)) h 0 ≡ true)
-    (below : places (suc (suc i)) ≤ 256) (long : length block ≡ places (suc (suc i))) where
+module _ (i h : ℕ) (profile : Profile) (block : List ℕ) (test : are_twiddles (suc (suc i)) h 0 ≡ true)
+    (below : places (suc (suc i)) ≤ 256) (long : length block ≡ places (suc (suc i)))
+    (size : profile.size ≡ 4 * places i) (keep : profile.keep ≡ 3 * places i) where
   -- a block of four quarters is a codeword where its coefficients add up to 0
-  pub four_quarters : (profile : Profile) (g : ℕ) → profile.size ≡ places (suc (suc i)) →
-      profile.keep ≡ 3 * places i → g ≡ 4 * h →
-      coefficient_sum i g 4 block ≡ replicate (places i) 0 → IsCodeword profile block
-  four_quarters profile g size keep is_g zeros =
-      from_polynomial profile poly block (long ∙ sym size) (omega (arith, keep, short))
-      (λ k less. symbols (suc i) h block test below long k (omega (arith, less, size)) ∙ value_is k)
+  four_quarters : coefficient_sum i (4 * h) 4 block ≡ replicate (places i) 0 → IsCodeword profile block
+  four_quarters zeros = record {
+    polynomial = poly;
+    degree = omega (arith, keep, short);
+    values = fill_by_all (value poly) block profile.size 0 (omega (arith, long, size)) (λ k less.
+        sym (takes_values (suc (suc i)) h 0 block k test (omega (arith, below)) long
+        (omega (arith, less, size)))
+        ∙ ap (basis (suc (suc i)) c) (zero-add k) ∙ value_is k);
+  }
     where
       n : ℕ
       n = places i
@@ -292,41 +264,37 @@ module _ (i h : ℕ) (block : List ℕ) (test : are_twiddles (suc (suc i)) h 0 �
       long_right : length right ≡ n + n
       long_right = length-back m block long
 
-      t0 : quarter_coefficients i g 0 block ≡ inverse i (2 * (2 * h)) (take n left)
-      t0 = first_top i g (2 * (2 * h)) block (take n left) (omega (arith, is_g))
-          (take-take n m block (omega arith))
+      t0 : quarter_coefficients i (4 * h) 0 block ≡ inverse i (2 * (2 * h)) (take n left)
+      t0 = ap₂ (inverse i) (omega arith)
+          (ap (λ k. take n (drop k block)) (zero-mul n) ∙ sym (take-take n m block (omega arith)))
 
-      t1 : quarter_coefficients i g 1 block ≡ inverse i (2 * (2 * h) + 1) (drop n left)
+      t1 : quarter_coefficients i (4 * h) 1 block ≡ inverse i (2 * (2 * h) + 1) (drop n left)
       t1 =
-          let one : n ≡ 1 * n = omega arith in
-          later_top i g 1 (2 * (2 * h) + 1) block (drop n left) (omega (arith, is_g))
-          (drop-take n n block ∙ ap (λ k. take n (drop k block)) one)
+          let one : 1 * n ≡ n = omega arith in
+          ap₂ (inverse i) (omega arith) (ap (λ k. take n (drop k block)) one ∙ sym (drop-take n n block))
 
-      t2 : quarter_coefficients i g 2 block ≡ inverse i (2 * (2 * h + 1)) (take n right)
+      t2 : quarter_coefficients i (4 * h) 2 block ≡ inverse i (2 * (2 * h + 1)) (take n right)
       t2 =
-          let two : m ≡ 2 * n = omega arith in
-          later_top i g 2 (2 * (2 * h + 1)) block (take n right) (omega (arith, is_g))
-          (ap (λ k. take n (drop k block)) two)
+          let two : 2 * n ≡ m = omega arith in
+          ap₂ (inverse i) (omega arith) (ap (λ k. take n (drop k block)) two)
 
-      t3 : quarter_coefficients i g 3 block ≡ inverse i (2 * (2 * h + 1) + 1) (drop n right)
+      t3 : quarter_coefficients i (4 * h) 3 block ≡ inverse i (2 * (2 * h + 1) + 1) (drop n right)
       t3 =
-          let three : m + n ≡ 3 * n = omega arith in
-          later_top i g 3 (2 * (2 * h + 1) + 1) block (drop n right) (omega (arith, is_g))
-          (sym (take_all n (drop n right) (omega (arith, length-back n right long_right)))
-          ∙ ap (take n) (drop-drop n m block ∙ ap (λ k. drop k block) three))
+          let three : 3 * n ≡ m + n = omega arith in
+          ap₂ (inverse i) (omega arith)
+          (ap (take n) (ap (λ k. drop k block) three ∙ sym (drop-drop n m block))
+          ∙ take_all n (drop n right) (omega (arith, length-back n right long_right)))
 
       top : drop n (drop m c) ≡ replicate n 0
-      top =
-          ap (drop n) (top_half (suc i) h block long)
+      top = ap (drop n) (top_half (suc i) h block long)
           ∙ drop-plus n (inverse (suc i) (2 * h) left) (inverse (suc i) (2 * h + 1) right)
           ∙ ap₂ plus (top_half i (2 * h) left long_left) (top_half i (2 * h + 1) right long_right)
           ∙ sym (ap₂ plus (ap₂ plus t0 t1) (ap₂ plus t2 t3))
-          ∙ sym (coefficient_sum-four i g block (omega (arith, long)))
+          ∙ sym (coefficient_sum-four i (4 * h) block (omega (arith, long)))
           ∙ zeros
 
       value_is : (k : ℕ) → basis (suc (suc i)) c k ≡ value poly k
-      value_is k =
-          basis-suc (suc i) c k
+      value_is k = basis-suc (suc i) c k
           ∙ ap (λ s. nim_add (value low k) (nim_mul (shat (suc i) k) s))
           (basis-suc i (drop m c) k
           ∙ ap (nim_add (value high k))
@@ -337,50 +305,24 @@ module _ (i h : ℕ) (block : List ℕ) (test : are_twiddles (suc (suc i)) h 0 �
           ∙ ap (nim_add (value low k)) (value-times nim nim_laws (shat_poly (suc i)) high k
           ∙ ap (λ s. nim_mul s (value high k)) (value-shat (suc i) k)))
 
--- the table of factors passes the test, at each node over the blocks of a profile
-twiddles_2 : are_twiddles 5 4 0 ≡ true
-unfolding product are_twiddles byte_shat byte_step
-twiddles_2 = refl
+-- the blocks under a node whose factors pass the test have them
+quarters_of : (i h size keep : ℕ) → are_twiddles (suc (suc i)) h 0 ≡ true → places (suc (suc i)) ≤ 256 →
+    size ≡ 4 * places i → keep ≡ 3 * places i → AreQuarters size keep i (4 * h)
+quarters_of i h size keep test below is_size is_keep = record {
+  size_is = is_size;
+  keep_is = is_keep;
+  codewords = λ profile block s k long. four_quarters i h profile block test below
+      (omega (arith, long, is_size)) (s ∙ is_size) (k ∙ is_keep);
+}
 
-twiddles_3 : are_twiddles 6 2 0 ≡ true
-unfolding product are_twiddles byte_shat byte_step
-twiddles_3 = refl
-
-twiddles_4 : are_twiddles 7 1 0 ≡ true
-unfolding product are_twiddles byte_shat byte_step
-twiddles_4 = refl
-
--- the quarters of the blocks of a profile: their level, and the node over the first
-pub record AreQuarters (size keep level first : ℕ) : Type 0 where
-  pub size_is : size ≡ 4 * places level
-  pub keep_is : keep ≡ 3 * places level
-  pub codewords : (profile : Profile) (block : List ℕ) → profile.size ≡ size → profile.keep ≡ keep →
-      length block ≡ size → coefficient_sum level first 4 block ≡ replicate (places level) 0 →
-      IsCodeword profile block
-
--- each profile from 2 on has them
+-- each profile from 2 on has them: the table of factors passes the test at each node over its blocks
 pub are_quarters : (number size keep : ℕ) → 1 < number → size ≡ (profile_of number).size →
     keep ≡ (profile_of number).keep → AreQuarters size keep (level_of number) (first_of number)
-are_quarters zero size keep some is_size is_keep = absurd (omega (arith, some))
-are_quarters (suc zero) size keep some is_size is_keep = absurd (omega (arith, some))
-are_quarters (suc (suc zero)) size keep some is_size is_keep = record {
-  size_is = is_size;
-  keep_is = is_keep;
-  codewords = λ profile block s k long zeros. four_quarters 3 4 block twiddles_2 (omega arith)
-      (long ∙ is_size) profile 16 (s ∙ is_size) (k ∙ is_keep) refl zeros;
-}
-are_quarters (suc (suc (suc zero))) size keep some is_size is_keep = record {
-  size_is = is_size;
-  keep_is = is_keep;
-  codewords = λ profile block s k long zeros. four_quarters 4 2 block twiddles_3 (omega arith)
-      (long ∙ is_size) profile 8 (s ∙ is_size) (k ∙ is_keep) refl zeros;
-}
-are_quarters (suc (suc (suc (suc more)))) size keep some is_size is_keep = record {
-  size_is = is_size;
-  keep_is = is_keep;
-  codewords = λ profile block s k long zeros. four_quarters 5 1 block twiddles_4 (omega arith)
-      (long ∙ is_size) profile 4 (s ∙ is_size) (k ∙ is_keep) refl zeros;
-}
+unfolding product are_twiddles byte_shat byte_step
+are_quarters (suc (suc zero)) size keep some = quarters_of 3 4 size keep refl (omega arith)
+are_quarters (suc (suc (suc zero))) size keep some = quarters_of 4 2 size keep refl (omega arith)
+are_quarters (suc (suc (suc (suc more)))) size keep some = quarters_of 5 1 size keep refl (omega arith)
+are_quarters number size keep some = absurd (omega (arith, some))
 
 module _ (profile : Profile) (level first : ℕ) (is : AreQuarters profile.size profile.keep level first) where
   -- kept symbols and what is made of them
@@ -417,8 +359,7 @@ module _ (profile : Profile) (level first : ℕ) (is : AreQuarters profile.size 
   -- in a codeword the coefficients of the quarters add up to 0
   pub codeword_quarters : (block : List ℕ) → profile.keep ≤ profile.size → length block ≡ profile.size →
       IsCodeword profile block → coefficient_sum level first 4 block ≡ replicate (places level) 0
-  codeword_quarters block le long is_codeword =
-      ap (coefficient_sum level first 4)
+  codeword_quarters block le long is_codeword = ap (coefficient_sum level first 4)
       (codeword_of_front profile block le is_codeword ∙ sym (quarters_are_codeword kept long_kept))
       ∙ made_zero level first 3 kept (long_kept ∙ is.keep_is)
     where

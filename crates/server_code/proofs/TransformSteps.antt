@@ -1,5 +1,5 @@
 -- The steps of the additive transform.
-use Rattle.server_code.proofs.Words.{◌≡◌, ◌+◌, ◌*◌, ◌++◌, ℕ, suc, List, take, drop, replicate, ap, ap₂, sym, ◌∙◌, add-one, plus, places, twiddle, joined, parted, inverse, forward, coefficient_sum}
+use Rattle.server_code.proofs.Words.{◌≡◌, ◌+◌, ◌*◌, ◌++◌, ℕ, suc, List, take, drop, ap, ap₂, sym, ◌∙◌, add-one, plus, places, twiddle, joined, parted, inverse, forward, coefficient_sum}
 use Rattle.std.proofs.lemmas.List.{take-append-drop}
 
 -- the coefficients of two values
@@ -27,12 +27,6 @@ unfolding forward
 forward_made i h v w l r is is_l is_r =
     ap₂ (λ s t. s ++ t) (is_l ∙ ap (λ x. forward i (2 * h) (take (places i) x)) is)
     (is_r ∙ ap (λ x. forward i (2 * h + 1) (drop (places i) x)) is)
-
--- no quarter is added
-pub no_quarter : (i h : ℕ) (block sum : List ℕ) → sum ≡ replicate (places i) 0 →
-    sum ≡ coefficient_sum i h 0 block
-unfolding coefficient_sum
-no_quarter i h block sum is = is
 
 -- one quarter more
 pub one_quarter_more : (i h q : ℕ) (block sum new : List ℕ) → sum ≡ coefficient_sum i h q block →

@@ -34,30 +34,26 @@ module _ (limit : ℕ) (old : State) (S : IsSound limit old) (opened : old.is_op
   beside-sound : (new : State) → IsBeside old new → IsSoundJournal new → journal_end new ≤ largest_journal →
       ((p : Pack) → new.alone ≡ Some (Packing p) → version_of old.records ≡ 2) →
       (new.is_switching ≡ true → IsSwitchable new) → IsSound limit new
-  beside-sound new B J room packing switching =
-      (let none : new.jobs ≡ [] = B.jobs ∙ lone in
+  beside-sound new B J room packing switching = (let none : new.jobs ≡ [] = B.jobs ∙ lone in
       let clear : new.append ≡ None = B.append ∙ no-append in
       let undoubted : new.doubt ≡ None = B.doubt ∙ no-doubt in
       record {
         accepted = subst AreAccepted (sym B.records) S.accepted;
         spelled = subst AreInGrammar (sym B.records) S.spelled;
         journal = J;
-        room = (let a = ap (sum_by (reserved (version_of new.records) (setup_in new))) none in
-            omega (arith, a, room));
+        room = omega (arith, ap (sum_by (reserved (version_of new.records) (setup_in new))) none, room);
         files = subst (λ b. AreHeld b new.records) (sym B.bytes)
             (subst (AreHeld old.bytes) (sym B.records) S.files);
-        names = (let a = ap (λ js. length (taken_by new.records js)) none in
-            let b = length-names_in (files_of new.records) in
-            let c = few-files_of new.records (subst AreAccepted (sym B.records) S.accepted) in
-            omega (arith, a, b, c));
-        ids = λ l. absurd (let a = ap (sum_by starts_left) none in omega (arith, l, a));
+        names = (let a = ap (λ js. length (taken_by new.records js)) none in let c = few-files_of new.records
+            (subst AreAccepted (sym B.records) S.accepted) in
+            omega (arith, a, length-names_in (files_of new.records), c));
+        ids = λ l. absurd (omega (arith, l, ap (sum_by starts_left) none));
         audits = λ k j h is_audit l. absurd (found_none new.jobs k j none h);
         closed = λ c. absurd (false≢true (sym c ∙ (B.is_open ∙ opened)));
         set_up = λ o. ap (λ rs. is_some (setup_of rs)) B.records ∙ S.set_up opened;
-        handed = λ o. (let a = S.handed opened in let b =
-            ap (λ (s : Setup). s.n) (setup_same new old (ap setup_of B.records)) in let c = B.handed in
-            omega (arith, a, b, c));
-        few = (let a = ap length none in omega (arith, a));
+        handed = λ o. (let b = ap (λ (s : Setup). s.n) (setup_same new old (ap setup_of B.records)) in
+            omega (arith, S.handed opened, b, B.handed));
+        few = omega (arith, ap length none);
         numbered = subst (λ js. AreNumbered 0 js new.next_job) (sym none) (omega arith);
         jobs = λ k j h. absurd (found_none new.jobs k j none h);
         in_journal = λ k j h. absurd (found_none new.jobs k j none h);
@@ -74,13 +70,12 @@ module _ (limit : ℕ) (old : State) (S : IsSound limit old) (opened : old.is_op
       })
 
   old-room : journal_end old ≤ largest_journal
-  old-room = (let a = S.room in omega (arith, a))
+  old-room = omega (arith, S.room)
 
   same-room : (new : State) → new.journal ≡ old.journal → new.area ≡ old.area →
       journal_end new ≤ largest_journal
   same-room new ej ea =
-      (let e = ap (λ area. end_in area new.journal) ea ∙ ap (end_in old.area) ej in let r = old-room in
-      omega (arith, e, r))
+      (omega (arith, ap (λ area. end_in area new.journal) ea ∙ ap (end_in old.area) ej, old-room))
 
   -- the journal stays where it is
   calm : (new : State) → IsBeside old new → new.journal ≡ old.journal → new.area ≡ old.area →
@@ -116,33 +111,22 @@ module _ (limit : ℕ) (old : State) (S : IsSound limit old) (opened : old.is_op
     switching : new.is_switching ≡ old.is_switching
     alone : (p : Pack) → new.alone ≡ Some (Packing p) → ⊥
 
-  none-packs : (p : Pack) → None ≡ Some (Packing p) → ⊥
-  none-packs p e = cc
-
-  scrub-packs : (scrub : Scrub) (p : Pack) → Some (Scrubbing scrub) ≡ Some (Packing p) → ⊥
-  scrub-packs scrub p e =
-      (let f : Scrubbing scrub ≡ Packing p = same_value (Some (Scrubbing scrub)) (Scrubbing scrub)
-      (Packing p) refl e in cc)
-
   scrubs : (scrub : Scrub) (action : Action) (rest : List Action) (r : Outcome) (new : State) →
       Scrubs old scrub action rest r new → IsScrubbed new
-  scrubs scrub (Fetch j object stripe) rest More new (block, (p, call, is)) =
-      subst IsScrubbed (sym is)
-      (record { journal = refl; area = refl; switching = refl; alone = λ q e. scrub-packs _ q e })
-  scrubs scrub (Work object stripe) rest More new (symbols, gives, is) =
-      subst IsScrubbed (sym is)
-      (record { journal = refl; area = refl; switching = refl; alone = λ q e. scrub-packs _ q e })
+  scrubs scrub (Fetch j object stripe) rest More new (block, (p, call, is)) = subst IsScrubbed (sym is)
+      (record { journal = refl; area = refl; switching = refl; alone = λ q e. cc })
+  scrubs scrub (Work object stripe) rest More new (symbols, gives, is) = subst IsScrubbed (sym is)
+      (record { journal = refl; area = refl; switching = refl; alone = λ q e. cc })
   scrubs scrub (Work object stripe) rest (Ended (answer.Lost s row)) new (s_is, lost, is) =
-      subst IsScrubbed (sym is) (record { journal = refl; area = refl; switching = refl; alone = none-packs })
-  scrubs scrub (Store j object stripe) rest More new (p, call, is) =
-      subst IsScrubbed (sym is)
-      (record { journal = refl; area = refl; switching = refl; alone = λ q e. scrub-packs _ q e })
+      subst IsScrubbed (sym is) (record { journal = refl; area = refl; switching = refl; alone = λ q e. cc })
+  scrubs scrub (Store j object stripe) rest More new (p, call, is) = subst IsScrubbed (sym is)
+      (record { journal = refl; area = refl; switching = refl; alone = λ q e. cc })
   scrubs scrub (Store j object stripe) rest (Ended (answer.ProviderFault k)) new (k_is, (p, call, is)) =
-      subst IsScrubbed (sym is) (record { journal = refl; area = refl; switching = refl; alone = none-packs })
+      subst IsScrubbed (sym is) (record { journal = refl; area = refl; switching = refl; alone = λ q e. cc })
   scrubs scrub (Store j object stripe) rest (Ended answer.Memory) new (p, call, is) =
-      subst IsScrubbed (sym is) (record { journal = refl; area = refl; switching = refl; alone = none-packs })
+      subst IsScrubbed (sym is) (record { journal = refl; area = refl; switching = refl; alone = λ q e. cc })
   scrubs scrub End rest (Ended (answer.Scrubbed stripes symbols blocks)) new (a, b, c, is) =
-      subst IsScrubbed (sym is) (record { journal = refl; area = refl; switching = refl; alone = none-packs })
+      subst IsScrubbed (sym is) (record { journal = refl; area = refl; switching = refl; alone = λ q e. cc })
   scrubs scrub action rest r new h = absurd h
 
   steps_scrub : (scrub : Scrub) (todo : List Action) (r : Outcome) (new : State) →
@@ -165,78 +149,58 @@ module _ (limit : ℕ) (old : State) (S : IsSound limit old) (opened : old.is_op
         moves-of (Packing q) = q.moves
         moves-of (Scrubbing s) = 0
 
-    -- a switch is under way
-    switchable : (new : State) → IsBeside old new →
+    -- the journal stays, and a switch is under way where it says so
+    switches : (new : State) → IsBeside old new → new.journal ≡ old.journal → new.area ≡ old.area →
         (new.is_open ≡ true → new.is_barred ≡ false →
-        (p : Pack) × (new.alone ≡ Some (Packing p)) × (p.moves ≡ 3)) → IsSwitchable new
-    switchable new B packing =
-        record {
+        (p : Pack) × (new.alone ≡ Some (Packing p)) × (p.moves ≡ 3)) → IsSound limit new
+    switches new B ej ea packing = beside-sound new B (journal-same old new B.records ej ea S.journal)
+        (same-room new ej ea) (λ p e. second) (λ e. record {
           version = ap version_of B.records ∙ second;
           undoubted = B.doubt ∙ no-doubt;
-          jobs = B.jobs
-              ∙ lone;
+          jobs = B.jobs ∙ lone;
           packing = packing;
-        }
+        })
+
+    -- the journal stays, and no switch is under way
+    quiet : {new w : State} → IsBeside old new → (pack.moves ≡ 3 → ⊥) → new ≡ w → w.journal ≡ old.journal →
+        w.area ≡ old.area → w.is_switching ≡ old.is_switching → IsSound limit new
+    quiet {new} B n is ej ea es = calm new B (ap (λ v. v.journal) is ∙ ej) (ap (λ v. v.area) is ∙ ea)
+        (ap (λ v. v.is_switching) is ∙ es) (still-at n) (λ p e. second)
 
     packs : (moves : ℕ) (r : Outcome) (new : State) → pack.moves ≡ moves → IsBeside old new →
         Packs old pack moves r new → IsSound limit new
-    packs zero More new at B (faults, low, is) = calm new B (ap (λ (w : State). w.journal) is)
-        (ap (λ (w : State). w.area) is) (ap (λ (w : State). w.is_switching) is)
-        (still-at (λ e. omega (arith, e, at))) (λ p e. second)
+    packs zero More new at B (faults, low, is) = quiet B (λ e. omega arith) is refl refl refl
     packs zero (Ended answer.DiskFault) new at B (faults, low, rose, is) =
-        calm new B (ap (λ (w : State). w.journal) is) (ap (λ (w : State). w.area) is)
-        (ap (λ (w : State). w.is_switching) is) (still-at (λ e. omega (arith, e, at))) (λ p e. second)
-    packs zero (Ended answer.Memory) new at B is =
-        calm new B (ap (λ (w : State). w.journal) is) (ap (λ (w : State). w.area) is)
-        (ap (λ (w : State). w.is_switching) is) (still-at (λ e. omega (arith, e, at))) (λ p e. second)
-    packs (suc zero) More new at B (faults, low, is) =
-        calm new B (ap (λ (w : State). w.journal) is) (ap (λ (w : State). w.area) is)
-        (ap (λ (w : State). w.is_switching) is) (still-at (λ e. omega (arith, e, at))) (λ p e. second)
+        quiet B (λ e. omega arith) is refl refl refl
+    packs zero (Ended answer.Memory) new at B is = quiet B (λ e. omega arith) is refl refl refl
+    packs (suc zero) More new at B (faults, low, is) = quiet B (λ e. omega arith) is refl refl refl
     packs (suc zero) (Ended answer.DiskFault) new at B (faults, low, rose, is) =
-        calm new B (ap (λ (w : State). w.journal) is) (ap (λ (w : State). w.area) is)
-        (ap (λ (w : State). w.is_switching) is) (still-at (λ e. omega (arith, e, at))) (λ p e. second)
+        quiet B (λ e. omega arith) is refl refl refl
     packs (suc (suc zero)) More new at B (faults, low, is) =
-        (let ej = ap (λ (w : State). w.journal) is in
-        beside-sound new B (journal-same old new B.records ej (ap (λ (w : State). w.area) is) S.journal)
-        (same-room new ej (ap (λ (w : State). w.area) is)) (λ p e. second)
-        (λ e. switchable new B
-        (λ o b. (
-          record pack { moves = pack.moves + 1 },
-          ap (λ (w : State). w.alone) is,
-          omega (arith, at),
-        ))))
+        switches new B (ap (λ w. w.journal) is) (ap (λ w. w.area) is)
+        (λ o b. (record pack { moves = pack.moves + 1 }, ap (λ w. w.alone) is, omega arith))
     packs (suc (suc zero)) (Ended answer.DiskFault) new at B (faults, low, rose, is) =
-        (let ej = ap (λ (w : State). w.journal) is in
-        beside-sound new B (journal-same old new B.records ej (ap (λ (w : State). w.area) is) S.journal)
-        (same-room new ej (ap (λ (w : State). w.area) is)) (λ p e. second)
-        (λ e. switchable new B (λ o b. absurd (false≢true (sym b ∙ ap (λ (w : State). w.is_barred) is)))))
-    packs (suc (suc zero)) (Ended answer.Memory) new at B is =
-        calm new B (ap (λ (w : State). w.journal) is) (ap (λ (w : State). w.area) is)
-        (ap (λ (w : State). w.is_switching) is) (still-at (λ e. omega (arith, e, at))) (λ p e. second)
-    packs (suc (suc (suc zero))) More new at B (faults, low, is) =
-        (let ej = ap (λ (w : State). w.journal) is in
-        let ea = ap (λ (w : State). w.area) is in
+        switches new B (ap (λ w. w.journal) is) (ap (λ w. w.area) is)
+        (λ o b. absurd (false≢true (sym b ∙ ap (λ w. w.is_barred) is)))
+    packs (suc (suc zero)) (Ended answer.Memory) new at B is = quiet B (λ e. omega arith) is refl refl refl
+    packs (suc (suc (suc zero))) More new at B (faults, low, is) = (let ej = ap (λ w. w.journal) is in
         beside-sound new B (journal-packed old new B.records ej second S.journal)
-        (let e = ap (λ area. end_in area new.journal) ea ∙ ap (end_in (other_area old.area)) ej in
-        let r = switched-room old.journal old.area S.journal.accepted S.journal.spelled in
-        omega (arith, e, r))
-        (λ p e. second) (λ e. absurd (false≢true (sym (ap (λ (w : State). w.is_switching) is) ∙ e))))
+        (let e = ap (λ area. end_in area new.journal) (ap (λ (w : State). w.area) is) ∙
+        ap (end_in (other_area old.area)) ej in
+        omega (arith, e, switched-room old.journal old.area S.journal.accepted S.journal.spelled))
+        (λ p e. second) (λ e. absurd (false≢true (sym (ap (λ w. w.is_switching) is) ∙ e))))
     packs (suc (suc (suc zero))) (Ended answer.DiskFault) new at B (faults, low, rose, is) =
-        (let ej = ap (λ (w : State). w.journal) is in
-        beside-sound new B (journal-same old new B.records ej (ap (λ (w : State). w.area) is) S.journal)
-        (same-room new ej (ap (λ (w : State). w.area) is)) (λ p e. second)
-        (λ e. switchable new B (λ o b. absurd (false≢true (sym b ∙ ap (λ (w : State). w.is_barred) is)))))
+        switches new B (ap (λ w. w.journal) is) (ap (λ w. w.area) is)
+        (λ o b. absurd (false≢true (sym b ∙ ap (λ w. w.is_barred) is)))
     packs (suc (suc (suc (suc zero)))) (Ended (answer.Packed before after)) new at B (b, a, is) =
-        calm new B (ap (λ (w : State). w.journal) is) (ap (λ (w : State). w.area) is)
-        (ap (λ (w : State). w.is_switching) is) (still-at (λ e. omega (arith, e, at))) (λ p e. second)
+        quiet B (λ e. omega arith) is refl refl refl
     packs moves r new at B h = absurd h
 
   -- each step of what runs alone
   pub alone-sound : (x : Alone) (r : Outcome) (new : State) → old.alone ≡ Some x → StepsAlone old x r new →
       IsSound limit new
-  alone-sound (Scrubbing scrub) r new runs h =
-      (let s = steps_scrub scrub scrub.todo r new h in
-      let still = still-where (λ p e three. scrub-packs scrub p (sym runs ∙ e)) in
+  alone-sound (Scrubbing scrub) r new runs h = (let s = steps_scrub scrub scrub.todo r new h in
+      let still = still-where (λ p e three. cc) in
       calm new (beside new (steps_aside old (Scrubbing scrub) r new h)) s.journal s.area s.switching still
       (λ p e. absurd (s.alone p e)))
   alone-sound (Packing pack) r new runs h =
@@ -246,7 +210,7 @@ module _ (limit : ℕ) (old : State) (S : IsSound limit old) (opened : old.is_op
 
 not-more : (js : List Job) → nat_lt 0 (length js) ≡ false → js ≡ []
 not-more [] h = refl
-not-more (j ∷ js) h = absurd (let l = at-most 0 (length (j ∷ js)) h in omega (arith, l))
+not-more (j ∷ js) h = absurd (omega (arith, at-most 0 (length (j ∷ js)) h))
   where
     at-most : (a b : ℕ) → nat_lt a b ≡ false → b ≤ a
     at-most a b h = grind (arith, h)
@@ -292,8 +256,7 @@ module _ (limit : ℕ) (old : State) (S : IsSound limit old) where
   pub scrub-begins : (moment : ℕ) (r : Outcome) (new : State) → BeginsScrub moment old r new →
       IsSound limit new
   scrub-begins moment r new h = begins [] (Scrubbing (new_scrub old moment)) r new
-      (λ a p e. absurd (let f : Some (Scrubbing (new_scrub old moment)) ≡ Some (Packing p) = ap Some e in cc))
-      h
+      (λ a p e. absurd (cc (ap Some e))) h
 
   -- a begin of a pack, refused or not, leaves a sound state
   pub pack-begins : (r : Outcome) (new : State) → BeginsPack old r new → IsSound limit new

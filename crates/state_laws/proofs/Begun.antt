@@ -51,7 +51,7 @@ put-begun limit old name bytes (Some q) allowed =
       named = not-false (is_name name) a.1.1.0;
       short = at-most largest_file (length bytes) a.1.1.1.1.0;
       known = λ p e. (let same : q ≡ p = same_value (Some q) q p refl e in
-          ((let l = below all_profiles q a.1.1.1.0 in omega (arith, l, same)), a.1.1.1.1.1.0));
+          ((omega (arith, below all_profiles q a.1.1.1.0, same)), a.1.1.1.1.1.0));
       place = a.1.1.1.1.1.1.0;
       full = a.1.1.1.1.1.1.1.0;
     })
@@ -91,7 +91,7 @@ module _ (limit : ℕ) (old : State) (kind : Kind) (wish : Option ℕ)
     where
       none : (js : List Job) → nat_lt 0 (length (aims_of js)) ≡ false → js ≡ []
       none [] h = refl
-      none (j ∷ js) h = absurd (let l = at-most 0 (length (aims_of (j ∷ js))) h in omega (arith, l))
+      none (j ∷ js) h = absurd (omega (arith, at-most 0 (length (aims_of (j ∷ js))) h))
 
   -- and nothing begins beside it
   begun-unshut : (k : ℕ) (j : Job) → job_of old.jobs k ≡ Some j → IsTrue (is_upgrade (aim_of j.kind)) → ⊥
@@ -101,8 +101,7 @@ module _ (limit : ℕ) (old : State) (kind : Kind) (wish : Option ℕ)
       (not_busy limit old kind wish allowed)))) ∙ u)
 
   begun-few : 1 ≤ limit → length old.jobs < limit
-  begun-few least = (let a = by_kind kind refl begun-clear in let b = length-aims old.jobs in
-      omega (arith, a, b))
+  begun-few least = omega (arith, by_kind kind refl begun-clear, length-aims old.jobs)
     where
       by_kind : (kd : Kind) → kind ≡ kd → are_jobs_in_the_way limit (aims_of old.jobs) (aim_of kd) ≡ false →
           length (aims_of old.jobs) < limit
@@ -110,8 +109,7 @@ module _ (limit : ℕ) (old : State) (kind : Kind) (wish : Option ℕ)
           below limit (length (aims_of old.jobs)) (left_false (nat_le limit (length (aims_of old.jobs))) _ h)
       by_kind RepairJob e h =
           below limit (length (aims_of old.jobs)) (left_false (nat_le limit (length (aims_of old.jobs))) _ h)
-      by_kind UpgradeJob e h =
-          (let z = ap length (begun-lone e) in let b = length-aims old.jobs in omega (arith, z, b, least))
+      by_kind UpgradeJob e h = omega (arith, ap length (begun-lone e), length-aims old.jobs, least)
       by_kind kd e h = below limit (length (aims_of old.jobs)) h
 
   begun-full : is_full (sight_of old) (aim_of kind) ≡ false
@@ -189,17 +187,16 @@ module _ (limit : ℕ) (old : State) (kind : Kind) (wish : Option ℕ)
 -- each job has at most one number to draw
 starts-few : (js : List Job) → sum_by starts_left js ≤ length js
 starts-few [] = omega arith
-starts-few (j ∷ js) =
-    (let a = sum_by-cons starts_left j js in let b = starts-few js in let c = one j in omega (arith, a, b, c))
+starts-few (j ∷ js) = omega (arith, sum_by-cons starts_left j js, starts-few js, one j)
   where
     one : (j : Job) → starts_left j ≤ 1
     one j = elim (cases_lt j.place 4) [
       | inl l ↦ by j.kind refl l
-      | inr l ↦ (let z = starts-later j l in omega (arith, z))
+      | inr l ↦ omega (arith, starts-later j l)
     ]
       where
         by : (kd : Kind) → j.kind ≡ kd → j.place < 4 → starts_left j ≤ 1
-        by (PutJob name bytes) e l = (let o = starts-first j name bytes e l in omega (arith, o))
+        by (PutJob name bytes) e l = omega (arith, starts-first j name bytes e l)
         by kd e l = (let z : starts_left j ≡ 0 = rw e refl in omega (arith, z))
 
 module _ (limit moment : ℕ) (old : State) (S : IsSound limit old) (kind : Kind) (wish : Option ℕ)
@@ -217,10 +214,9 @@ module _ (limit moment : ℕ) (old : State) (S : IsSound limit old) (kind : Kind
   none-made : moves_made old.append old.next_job ≡ 0
   none-made = elim (cases_eq (moves_made old.append old.next_job) 0) [
     | inl e ↦ e
-    | inr n ↦ absurd (let m = made-some old.append old.next_job (omega (arith, n)) in
+    | inr n ↦ absurd (let m = made-some old.append old.next_job (omega arith) in
         let A = S.append m.0 m.1 in
-        let l = numbered-below 0 old.jobs old.next_job m.0.job A.job S.numbered A.runs in
-        let e = m.2 in omega (arith, l, e))
+        omega (arith, numbered-below 0 old.jobs old.next_job m.0.job A.job S.numbered A.runs, m.2))
   ]
 
   added-ready : (kd : Kind) → kind ≡ kd → IsReady (setup_in old) old.records old.bytes added kd
@@ -303,7 +299,7 @@ module _ (limit moment : ℕ) (old : State) (S : IsSound limit old) (kind : Kind
   added-room = (let a = sum-more (reserved (version_of old.records) (setup_in old)) old.jobs added in
       let b = added-reserved in elim (begun-room limit old kind wish allowed) [
         | inl l ↦ omega (arith, a, b, l)
-        | inr z ↦ (let c = S.room in omega (arith, a, b, z, c))
+        | inr z ↦ omega (arith, a, b, z, S.room)
       ])
 
   put-more : (n : List ℕ) → are_put n (old.jobs ++ added ∷ [])
@@ -319,7 +315,7 @@ module _ (limit moment : ℕ) (old : State) (S : IsSound limit old) (kind : Kind
           (λ n g. ap (λ b. b || is_some (file_of old.records n))
           (sym (put-more n ∙ (ap (λ b. are_put n old.jobs || (b || false)) (h n)
           ∙ or-none (are_put n old.jobs)))) ∙ g) in
-          let b = S.names in omega (arith, f, b))
+          let b = S.names in omega arith)
         where
           or-none : (a : Bool) → (a || false) ≡ a
           or-none true = refl
@@ -330,11 +326,11 @@ module _ (limit moment : ℕ) (old : State) (S : IsSound limit old) (kind : Kind
         | inl there ↦ (let f = fewer (taken_by old.records (old.jobs ++ added ∷ []))
             (names_taken (sight_of old)) (once-taken old.records (old.jobs ++ added ∷ []))
             (λ n g. among n there (more n g)) in
-            let b = S.names in omega (arith, f, b))
+            let b = S.names in omega arith)
         | inr room ↦ (let f = fewer (taken_by old.records (old.jobs ++ added ∷ []))
             (name ∷ names_taken (sight_of old)) (once-taken old.records (old.jobs ++ added ∷ []))
             (λ n g. with-name n (more n g)) in
-            omega (arith, f, room))
+            omega arith)
       ]
         where
           split : (a b c : Bool) → ((a || (b || false)) || c) ≡ true → (b ≡ true) ⊎ ((a || c) ≡ true)
@@ -355,8 +351,7 @@ module _ (limit moment : ℕ) (old : State) (S : IsSound limit old) (kind : Kind
           among : (n : List ℕ) → is_name_among (names_taken (sight_of old)) name ≡ true →
               (is_same_name n name ≡ true) ⊎ (is_name_among (names_taken (sight_of old)) n ≡ true) →
               is_name_among (names_taken (sight_of old)) n ≡ true
-          among n there (inl same) = subst (λ m. is_name_among (names_taken (sight_of old)) m ≡ true)
-              (sym (same-eq n name same)) there
+          among n there (inl same) = rw (← (same-eq n name same)) at there
           among n there (inr was) = was
 
           with-name : (n : List ℕ) → (is_same_name n name ≡ true) ⊎
@@ -368,11 +363,7 @@ module _ (limit moment : ℕ) (old : State) (S : IsSound limit old) (kind : Kind
               or-true : (a : Bool) → (a || true) ≡ true
               or-true true = refl
               or-true false = refl
-      by_kind (GetJob name) e = plain (λ n. ap (λ kd. puts_name n (aim_of kd)) e)
-      by_kind (DropJob name) e = plain (λ n. ap (λ kd. puts_name n (aim_of kd)) e)
-      by_kind AuditJob e = plain (λ n. ap (λ kd. puts_name n (aim_of kd)) e)
-      by_kind RepairJob e = plain (λ n. ap (λ kd. puts_name n (aim_of kd)) e)
-      by_kind UpgradeJob e = plain (λ n. ap (λ kd. puts_name n (aim_of kd)) e)
+      by_kind kd e = plain (λ n. ap (λ k. puts_name n (aim_of k)) e)
 
   -- numbers are left
   added-ids : IsLimit limit → 0 < sum_by starts_left (old.jobs ++ added ∷ []) →
@@ -381,17 +372,14 @@ module _ (limit moment : ℕ) (old : State) (S : IsSound limit old) (kind : Kind
     where
       none : starts_left added ≡ 0 →
           next_id old.records + sum_by starts_left (old.jobs ++ added ∷ []) ≤ 2 ^ 64 - 1
-      none z = (let a = sum-more starts_left old.jobs added in let s = S.ids (omega (arith, l, a, z)) in
-          omega (arith, a, z, s))
+      none z = (let a = sum-more starts_left old.jobs added in
+          omega (arith, a, z, S.ids (omega (arith, l, a, z))))
 
       by_kind : (kd : Kind) → kind ≡ kd →
           next_id old.records + sum_by starts_left (old.jobs ++ added ∷ []) ≤ 2 ^ 64 - 1
-      by_kind (PutJob name bytes) e =
-          (let i = begun-id limit old kind wish allowed name bytes e in
-          let f = starts-few (old.jobs ++ added ∷ []) in
-          let n = length-append old.jobs (added ∷ []) in
-          let b = begun-few limit old kind wish allowed fits.0 in
-          let m = fits.1 in omega (arith, i, f, n, b, m))
+      by_kind (PutJob name bytes) e = (let i = begun-id limit old kind wish allowed name bytes e in let n =
+          length-append old.jobs (added ∷ []) in let b = begun-few limit old kind wish allowed fits.0 in
+          omega (arith, i, starts-few (old.jobs ++ added ∷ []), n, b, fits.1))
       by_kind kd e = none (rw e refl)
 
   -- the state after the begin
@@ -418,24 +406,22 @@ module _ (limit moment : ℕ) (old : State) (S : IsSound limit old) (kind : Kind
     names = added-names;
     ids = added-ids fits;
     audits = λ k j h is_audit l. elim (found_more old.jobs added k j h) [
-      | inl p ↦ begun-audit limit old kind wish allowed (sym (ap (λ (z : Job). z.kind) p.1) ∙ is_audit)
+      | inl p ↦ begun-audit limit old kind wish allowed (sym (ap (λ z. z.kind) p.1) ∙ is_audit)
       | inr q ↦ S.audits k j q is_audit l
     ];
     closed = λ c. absurd (false≢true (sym c ∙ opened));
     set_up = S.set_up;
     handed = S.handed;
-    few = (let a = length-append old.jobs (added ∷ []) in
-        let b = begun-few limit old kind wish allowed fits.0 in omega (arith, a, b));
+    few = omega (arith, length-append old.jobs (added ∷ []), begun-few limit old kind wish allowed fits.0);
     numbered = numbered-more 0 old.jobs old.next_job added refl S.numbered;
     jobs = λ k j h. elim (found_more old.jobs added k j h) [
-      | inl p ↦ subst (λ (z : Job). IsSoundJob (setup_in old) old.records old.bytes
-          (moves_made old.append k) z) (sym p.1)
-          (subst (λ m. IsSoundJob (setup_in old) old.records old.bytes m added)
+      | inl p ↦ subst (λ z. IsSoundJob (setup_in old) old.records old.bytes (moves_made old.append k) z)
+          (sym p.1) (subst (λ m. IsSoundJob (setup_in old) old.records old.bytes m added)
           (sym (ap (moves_made old.append) p.0 ∙ none-made)) added-job)
       | inr q ↦ S.jobs k j q
     ];
     in_journal = λ k j h. elim (found_more old.jobs added k j h) [
-      | inl p ↦ subst (λ (z : Job). IsReady (setup_in old) old.journal old.bytes z z.kind) (sym p.1)
+      | inl p ↦ subst (λ z. IsReady (setup_in old) old.journal old.bytes z z.kind) (sym p.1)
           (added-journal kind (added-ready kind refl))
       | inr q ↦ S.in_journal k j q
     ];
@@ -445,30 +431,27 @@ module _ (limit moment : ℕ) (old : State) (S : IsSound limit old) (kind : Kind
         (let p = (S.switching e).packing opened (begun-unbarred limit old kind wish allowed) in
         some-not-none old.alone (Packing p.0) p.1 (none_lone limit old kind wish allowed));
     upgrade = λ k j h u. elim (found_more old.jobs added k j h) [
-      | inl p ↦ ap (λ js. js ++ added ∷ [])
-          (begun-lone limit old kind wish allowed
-          (upgrade-is kind (subst (λ (z : Job). IsTrue (is_upgrade (aim_of z.kind))) p.1 u)))
-          ∙ ap (λ (x : Job). x ∷ []) (sym p.1)
+      | inl p ↦ ap (λ js. js ++ added ∷ []) (begun-lone limit old kind wish allowed
+          (upgrade-is kind (subst (λ z. IsTrue (is_upgrade (aim_of z.kind))) p.1 u)))
+          ∙ ap (λ x. x ∷ []) (sym p.1)
       | inr q ↦ absurd (begun-unshut limit old kind wish allowed k j q u)
     ];
     one_check = λ k l i j hi hj ci cj. elim (found_more old.jobs added k i hi) [
       | inl p ↦ elim (found_more old.jobs added l j hj) [
         | inl q ↦ p.0 ∙ sym q.0
-        | inr q ↦ absurd (false≢true
-            (sym (check_alone limit old kind wish allowed
-            (subst (λ (z : Job). IsTrue (is_check (aim_of z.kind))) p.1 ci) l j q) ∙ cj))
+        | inr q ↦ absurd (false≢true (sym (check_alone limit old kind wish allowed
+            (subst (λ z. IsTrue (is_check (aim_of z.kind))) p.1 ci) l j q) ∙ cj))
       ]
       | inr p ↦ elim (found_more old.jobs added l j hj) [
-        | inl q ↦ absurd (false≢true
-            (sym (check_alone limit old kind wish allowed
-            (subst (λ (z : Job). IsTrue (is_check (aim_of z.kind))) q.1 cj) k i p) ∙ ci))
+        | inl q ↦ absurd (false≢true (sym (check_alone limit old kind wish allowed
+            (subst (λ z. IsTrue (is_check (aim_of z.kind))) q.1 cj) k i p) ∙ ci))
         | inr q ↦ S.one_check k l i j p q ci cj
       ]
     ];
     apart = λ k l i j hi hj ui uj same. elim (found_more old.jobs added k i hi) [
-      | inl p ↦ absurd (no-puts kind (subst (λ (z : Job). IsPutUnderWay z z.kind) p.1 ui))
+      | inl p ↦ absurd (no-puts kind (subst (λ z. IsPutUnderWay z z.kind) p.1 ui))
       | inr p ↦ elim (found_more old.jobs added l j hj) [
-        | inl q ↦ absurd (no-puts kind (subst (λ (z : Job). IsPutUnderWay z z.kind) q.1 uj))
+        | inl q ↦ absurd (no-puts kind (subst (λ z. IsPutUnderWay z z.kind) q.1 uj))
         | inr q ↦ S.apart k l i j p q ui uj same
       ]
     ];

@@ -18,9 +18,8 @@ or-left false b false f h = h
 put-without : (n : List ℕ) (js : List Job) (m : ℕ) → are_put n (without_job js m) ≡ true → are_put n js ≡ true
 put-without n [] m h = h
 put-without n (x ∷ js) m h = elim (cases_Bool (x.number == m)) [
-  | inl t ↦ later (puts_name n (aim_of x.kind))
-      (put-without n js m (ap (are_put n)
-      (sym (cond_true (x.number == m) (without_job js m) (x ∷ without_job js m) t)) ∙ h))
+  | inl t ↦ later (puts_name n (aim_of x.kind)) (put-without n js m
+      (ap (are_put n) (sym (cond_true (x.number == m) (without_job js m) (x ∷ without_job js m) t)) ∙ h))
   | inr f ↦ or-right (puts_name n (aim_of x.kind)) (are_put n (without_job js m)) (are_put n js)
       (put-without n js m) (ap (are_put n)
       (sym (cond_false (x.number == m) (without_job js m) (x ∷ without_job js m) f)) ∙ h)
@@ -49,19 +48,18 @@ module _ (limit : ℕ) (old : State) (S : IsSound limit old) (job : Job)
     spelled = S.spelled;
     journal = journal-same old (left_by old job flight doubt barred) refl refl refl S.journal;
     room = (let a = sum-without (reserved (version_of old.records) (setup_in old)) old.jobs job.number job
-        runs in let c = S.room in omega (arith, a, c));
+        runs in omega (arith, a, S.room));
     files = S.files;
-    names = (let a = taken-fewer old.records old.records old.jobs (without_job old.jobs job.number)
-        (λ n h. or-left (are_put n (without_job old.jobs job.number)) (is_some (file_of old.records n))
-        (are_put n old.jobs) (put-without n old.jobs job.number) h) in let b = S.names in
-        omega (arith, a, b));
+    names = (let a = taken-fewer old.records old.records old.jobs (without_job old.jobs job.number) (λ n h.
+        or-left (are_put n (without_job old.jobs job.number)) (is_some (file_of old.records n)) (are_put n
+        old.jobs) (put-without n old.jobs job.number) h) in omega (arith, a, S.names));
     ids = λ l. (let a = sum-without starts_left old.jobs job.number job runs in
-        let c = S.ids (omega (arith, l, a)) in omega (arith, a, c));
+        omega (arith, a, S.ids (omega (arith, l, a))));
     audits = λ k j h is_audit l. S.audits k j (found_without old.jobs job.number k j h).1 is_audit l;
     closed = λ closed. absurd (found_some (S.closed closed).0);
     set_up = S.set_up;
     handed = S.handed;
-    few = (let a = length-without old.jobs job.number in let b = S.few in omega (arith, a, b));
+    few = omega (arith, length-without old.jobs job.number, S.few);
     numbered = numbered-without 0 old.jobs old.next_job job.number S.numbered;
     jobs = λ k j h. (let q = found_without old.jobs job.number k j h in
         kept (setup_in old) old.records old.bytes old.bytes (λ id l. refl) (moves_made old.append k)
@@ -70,8 +68,7 @@ module _ (limit : ℕ) (old : State) (S : IsSound limit old) (job : Job)
     lone = λ x e. absurd (found_some (S.lone x e));
     packing = S.packing;
     switching = λ e. absurd (found_some (S.switching e).jobs);
-    upgrade = λ k j h u. absurd
-        (only-without old.jobs job.number job j runs
+    upgrade = λ k j h u. absurd (only-without old.jobs job.number job j runs
         (S.upgrade k j (found_without old.jobs job.number k j h).1 u) k j h);
     one_check = λ k l i j hi hj ci cj. S.one_check k l i j (found_without old.jobs job.number k i hi).1
         (found_without old.jobs job.number l j hj).1 ci cj;
@@ -98,11 +95,10 @@ module _ (limit : ℕ) (old : State) (S : IsSound limit old) (job : Job)
   -- a job of whose append no move is made ends
   pub plain-ended : moves_made old.append job.number ≡ 0 →
       IsSound limit (left_by old job old.append old.doubt old.is_barred)
-  plain-ended none = ended-sound old.append old.doubt old.is_barred (λ k n. refl)
-      (λ a flight. (
-        S.append a flight,
-        not-mine old.append job.number a flight (S.append a flight).begun none,
-      )) S.barred S.undoubted S.doubt
+  plain-ended none = ended-sound old.append old.doubt old.is_barred (λ k n. refl) (λ a flight. (
+    S.append a flight,
+    not-mine old.append job.number a flight (S.append a flight).begun none,
+  )) S.barred S.undoubted S.doubt
 
   -- a job ends whose append is given up, or none was in flight
   pub append-ended : (doubt : Option Doubt) (barred : Bool) →
@@ -110,9 +106,8 @@ module _ (limit : ℕ) (old : State) (S : IsSound limit old) (job : Job)
       (old.is_open ≡ true → barred ≡ false → doubt ≡ None) →
       ((d : Doubt) → doubt ≡ Some d → MayFollowIn old d.entry) →
       IsSound limit (left_by old job None doubt barred)
-  append-ended doubt barred own undoubted doubts =
-      ended-sound None doubt barred (λ k n. others k n old.append refl) (λ a h. absurd (none-some a h))
-      (λ b. refl) undoubted doubts
+  append-ended doubt barred own undoubted doubts = ended-sound None doubt barred
+      (λ k n. others k n old.append refl) (λ a h. absurd (none-some a h)) (λ b. refl) undoubted doubts
     where
       none-some : (a : Append) → None ≡ Some a → ⊥
       none-some a h = cc

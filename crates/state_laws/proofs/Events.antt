@@ -1,5 +1,5 @@
 -- Each event leaves a sound state sound.
-use Rattle.state_laws.proofs.Words.{◌≡◌, ◌==◌, Bool, true, false, length, drop, Option, refl, ap, sym, subst, ◌∙◌, inl, inr, arith, IsSome, nat_lt, slice_get, cases_Bool, false≢true, and_parts, eqb-true, drop-get, Kind, PutJob, GetJob, DropJob, AuditJob, RepairJob, UpgradeJob, Job, Given, Fetched, Answered, Worked, job_of, advanced, Action, WriteBody, SyncBody, WriteGate, Store, Fetch, Ask, Work, Remove, End, ends_append, actions_of, actions_left, Event, Init, Begin, BeginAt, BeginScrub, BeginPack, Step, Alter, Lose, Stop, Reopen, Names, Continue, IsSpelled, IsSpelledKind, Outcome, Refused, Begun, Replaced, NothingHeld, Listed, Closed, State, IsStart, Append, Doubt, setup_in, with_provider, going_on, ended, BeginsAt, is_idle_drop, next_action, Steps, Lists, Happens, Moment, IsRun, now, Answer, cond_true, cond_false, same_value, moves_made, moves_before, moves_after, IsInOrder, MayFollowIn, IsGatedDoubt, IsDoubtOf, IsLimit, IsSound}
+use Rattle.state_laws.proofs.Words.{◌≡◌, ◌==◌, Bool, true, false, length, drop, Option, refl, ap, sym, subst, ◌∙◌, inl, inr, arith, IsSome, nat_lt, slice_get, cases_Bool, false≢true, and_parts, eqb-true, drop-get, Kind, PutJob, DropJob, Job, Given, Fetched, Answered, Worked, job_of, advanced, Action, WriteBody, SyncBody, WriteGate, Store, Fetch, Ask, Work, Remove, End, ends_append, actions_of, actions_left, Event, Init, Begin, BeginAt, BeginScrub, BeginPack, Step, Alter, Lose, Stop, Reopen, Names, Continue, IsSpelled, IsSpelledKind, Outcome, Refused, Begun, Replaced, NothingHeld, Listed, Closed, State, IsStart, Append, Doubt, setup_in, with_provider, going_on, ended, BeginsAt, is_idle_drop, next_action, Steps, Lists, Happens, Moment, IsRun, now, Answer, cond_true, cond_false, same_value, moves_made, moves_before, moves_after, IsInOrder, MayFollowIn, IsGatedDoubt, IsDoubtOf, IsLimit, IsSound}
 use Rattle.std.proofs.Common.{ℕ, ◌+◌, List, [], ◌∷◌, Some, None}
 use Rattle.device_defs.specs.Providers.{Held, Provider, with_symbol, without_block, HasPlace}
 use Rattle.machine_defs.specs.Replacements.{ReplacesAt, ReplacesIf}
@@ -85,8 +85,7 @@ moves-next w job action moves next order = elim (cases_Bool (is_idle_drop w job 
       sym (cond_true (is_idle_drop w job job.kind) (Some End)
       (slice_get (actions_of (setup_in w) job) job.place) t) ∙ next in
       let f : End ≡ action = cc in at WriteBody first ∙ ap moves_before f)
-  | inr f ↦ at action (sym
-      (cond_false (is_idle_drop w job job.kind) (Some End)
+  | inr f ↦ at action (sym (cond_false (is_idle_drop w job job.kind) (Some End)
       (slice_get (actions_of (setup_in w) job) job.place) f) ∙ next)
 ]
   where
@@ -110,9 +109,8 @@ module _ (limit moment : ℕ) (old : State) (S : IsSound limit old) where
         next_action old job ≡ Some action → (action ≡ End → ⊥) → IsOn action →
         IsSound limit
         (record (going_on old (onward job job.subject given)) { providers = with_provider old.providers j p })
-    called j p action given next n on =
-        devices-sound limit (gone_on old (onward job job.subject given) old.append old.doubt old.bytes
-        old.audits) (with_provider old.providers j p) old.disk_faults
+    called j p action given next n on = devices-sound limit (gone_on old (onward job job.subject given)
+        old.append old.doubt old.bytes old.audits) (with_provider old.providers j p) old.disk_faults
         (plain-sound limit old S job runs action given next n on.0 on.1 on.2)
 
     -- the job ends at an action between appends
@@ -154,21 +152,18 @@ module _ (limit moment : ℕ) (old : State) (S : IsSound limit old) where
     acts = record {
       begins = λ entry next none writes faults low. devices-sound limit _ old.providers faults
           (begun-sound limit old S job runs entry opened unbarred none next writes);
-      syncs = λ a next flight at faults low.
-          devices-sound limit (gone_on old (onward job job.subject job.given)
-          (Some (record a { moves = a.moves + 1 })) old.doubt old.bytes old.audits) old.providers faults
-          (moved-sound limit old S job runs a flight at.0 SyncBody old.doubt next (λ e. cc) refl
-          (let e = at.1 in omega (arith, e)) (let e = at.1 in omega (arith, e)) unbarred
+      syncs = λ a next flight at faults low. devices-sound limit (gone_on old
+          (onward job job.subject job.given) (Some (record a { moves = a.moves + 1 })) old.doubt old.bytes
+          old.audits) old.providers faults (moved-sound limit old S job runs a flight at.0 SyncBody old.doubt
+          next (λ e. cc) refl (omega (arith, at.1)) (omega (arith, at.1)) unbarred
           (subst (λ n. IsGatedDoubt (record a { moves = a.moves + 1 }) (n + 1 == 3) old.doubt) (sym at.1)
           (not-doubted a flight (ap (λ n. n == 3) at.1))) S.doubt);
-      gates = λ a next flight at faults low.
-          devices-sound limit (gone_on old (onward job job.subject job.given)
-          (Some (record a { moves = a.moves + 1 }))
-          (Some (record { entry = a.entry; maker = Some (advanced job) })) old.bytes old.audits)
-          old.providers faults
-          (moved-sound limit old S job runs a flight at.0 WriteGate
+      gates = λ a next flight at faults low. devices-sound limit (gone_on old
+          (onward job job.subject job.given) (Some (record a { moves = a.moves + 1 }))
+          (Some (record { entry = a.entry; maker = Some (advanced job) })) old.bytes old.audits) old.providers
+          faults (moved-sound limit old S job runs a flight at.0 WriteGate
           (Some (record { entry = a.entry; maker = Some (advanced job) })) next (λ e. cc) refl
-          (let e = at.1 in omega (arith, e)) (let e = at.1 in omega (arith, e)) unbarred
+          (omega (arith, at.1)) (omega (arith, at.1)) unbarred
           (subst (λ n. IsGatedDoubt (record a { moves = a.moves + 1 }) (n + 1 == 3)
           (Some (record { entry = a.entry; maker = Some (advanced job) }))) (sym at.1)
           (record { entry = a.entry; maker = Some (advanced job) }, refl, refl)) (gated a flight));
@@ -179,9 +174,8 @@ module _ (limit moment : ℕ) (old : State) (S : IsSound limit old) where
           bars (Some (record { entry = a.entry; maker = Some (advanced job) })) faults
           (in-flight a flight at.0) (gated a flight);
       begins_not = λ next none. ends WriteBody old.providers old.disk_faults next refl;
-      gates_not = λ a next flight at.
-          append-ended limit old S job runs old.doubt old.is_barred (in-flight a flight at.0)
-          (λ o b. not-doubted a flight (ap (λ n. n == 3) at.1)) S.doubt;
+      gates_not = λ a next flight at. append-ended limit old S job runs old.doubt old.is_barred
+          (in-flight a flight at.0) (λ o b. not-doubted a flight (ap (λ n. n == 3) at.1)) S.doubt;
       stores = λ j o s p next call. called j p (Store j o s) job.given next (λ e. cc) (refl, refl, refl);
       stores_not = λ j o s p how next call.
           ends (Store j o s) (with_provider old.providers j p) old.disk_faults next refl;
@@ -198,8 +192,7 @@ module _ (limit moment : ℕ) (old : State) (S : IsSound limit old) where
 
   steps : (number : ℕ) (r : Outcome) (new : State) → Steps old number old.is_open r new → IsSound limit new
   steps number r new h = by_step old (λ n r w. IsSound limit w) (λ n r still. S)
-      (λ job runs opened unbarred.
-      by_action old job (λ r w. IsSound limit w) (acts opened unbarred job runs))
+      (λ job runs opened unbarred. by_action old job (λ r w. IsSound limit w) (acts opened unbarred job runs))
       (λ n x r w at opened unbarred h. alone-sound limit old S opened unbarred (S.lone x at) x r w at h)
       number old.is_open r new refl h
 
@@ -216,11 +209,9 @@ module _ (limit moment : ℕ) (old : State) (S : IsSound limit old) where
   replaces : (j : ℕ) (IsThere : Held → Type 0) (changed : Held → Held) (r : Outcome) (new : State) →
       ReplacesAt old j IsThere changed r new → IsSound limit new
   replaces j IsThere changed Replaced new (p, made, is) =
-      subst (IsSound limit) (sym is)
-      (devices-sound limit old (with_provider old.providers j p) old.disk_faults S)
+      (rw (← is) at (devices-sound limit old (with_provider old.providers j p) old.disk_faults S))
   replaces j IsThere changed NothingHeld new (p, made, is) =
-      subst (IsSound limit) (sym is)
-      (devices-sound limit old (with_provider old.providers j p) old.disk_faults S)
+      (rw (← is) at (devices-sound limit old (with_provider old.providers j p) old.disk_faults S))
   replaces j IsThere changed r new h = absurd h
 
   replaces_if : (handed : Bool) (j : ℕ) (IsThere : Held → Type 0) (changed : Held → Held) (r : Outcome)
@@ -245,12 +236,10 @@ module _ (limit moment : ℕ) (old : State) (S : IsSound limit old) where
   events-sound fits BeginScrub r new spelled h = scrub-begins limit old S moment r new h
   events-sound fits BeginPack r new spelled h = pack-begins limit old S r new h
   events-sound fits (Step number) r new spelled h = steps number r new h
-  events-sound fits (Alter j object stripe place symbol) r new spelled h =
-      replaces_if (nat_lt j old.handed) j (λ held. HasPlace (held object stripe) place)
-      (with_symbol object stripe place symbol) r new h
-  events-sound fits (Lose j object stripe) r new spelled h =
-      replaces_if (nat_lt j old.handed) j (λ held. IsSome (held object stripe))
-      (without_block object stripe) r new h
+  events-sound fits (Alter j object stripe place symbol) r new spelled h = replaces_if (nat_lt j old.handed) j
+      (λ held. HasPlace (held object stripe) place) (with_symbol object stripe place symbol) r new h
+  events-sound fits (Lose j object stripe) r new spelled h = replaces_if (nat_lt j old.handed) j
+      (λ held. IsSome (held object stripe)) (without_block object stripe) r new h
   events-sound fits (Stop picks) r new spelled h = stops-sound limit old S r new h
   events-sound fits Reopen r new spelled h = reopens-sound limit old S r new h
   events-sound fits Names r new spelled h = lists old.is_open r new h
@@ -260,6 +249,5 @@ module _ (limit moment : ℕ) (old : State) (S : IsSound limit old) where
 pub run-sound : (limit : ℕ) (start : State) (ms : List Moment) → IsLimit limit → IsStart start →
     IsRun limit start ms → IsSound limit (now start ms)
 run-sound limit start [] fits clean run = start-sound limit start clean
-run-sound limit start (m ∷ ms) fits clean run =
-    events-sound limit (length ms) (now start ms) (run-sound limit start ms fits clean run.2) fits m.event
-    m.outcome m.state run.0 run.1
+run-sound limit start (m ∷ ms) fits clean run = events-sound limit (length ms) (now start ms)
+    (run-sound limit start ms fits clean run.2) fits m.event m.outcome m.state run.0 run.1

@@ -1,5 +1,5 @@
 -- What sound states give: their setup, their files, and the next actions of their jobs.
-use Rattle.state_laws.proofs.Words.{◌≡◌, ◌-◌, ◌<◌, true, false, refl, ap, sym, ◌∙◌, inl, inr, arith, IsTrue, nat_lt, slice_get, list_all, cases_Bool, and_parts, ltb-true, Setup, SetUp, is_setup, is_master, is_appended, is_in_grammar, next_id, next_audit, Kind, PutJob, GetJob, DropJob, AuditJob, RepairJob, UpgradeJob, aim_of, Job, job_of, Action, End, actions_of, actions_left, IsAt, State, Append, setup_in, sight_of, are_numbers_used_up, is_idle_drop, next_action, cond_true, cond_false, number_of, moves_made, moves_before, IsSound}
+use Rattle.state_laws.proofs.Words.{◌≡◌, ◌-◌, ◌<◌, false, refl, ap, sym, ◌∙◌, inl, inr, arith, IsTrue, nat_lt, slice_get, list_all, cases_Bool, and_parts, ltb-true, Setup, SetUp, is_setup, is_master, is_appended, is_in_grammar, next_id, next_audit, Kind, PutJob, AuditJob, aim_of, Job, job_of, Action, End, actions_of, actions_left, IsAt, State, Append, setup_in, sight_of, are_numbers_used_up, is_idle_drop, next_action, cond_true, cond_false, number_of, moves_made, moves_before, IsSound}
 use Rattle.std.proofs.Common.{ℕ, ◌≤◌, ◌^◌, Some}
 use Rattle.hail_field.specs.Shape.{IsShape}
 use Rattle.state_laws.proofs.Orders.{in_order-first, get-drop}
@@ -9,12 +9,11 @@ use Rattle.state_laws.proofs.Events.{moves-next}
 
 -- the numbers of a setup in the grammar are a shape of the code
 pub valid-shape : (s : Setup) → IsTrue (is_in_grammar (SetUp s)) → IsShape s.n s.l s.b
-valid-shape s h = let good : is_setup s ≡ true =
-    (and_parts (is_setup s) (is_master s.master) h).0 in grind (arith, good)
+valid-shape s h = grind (arith, (and_parts (is_setup s) (is_master s.master) h).0)
 
 not-above : (n : ℕ) → n ≤ 2 ^ 64 - 32 → nat_lt (2 ^ 64 - 32) n ≡ false
 not-above n l = elim (cases_Bool (nat_lt (2 ^ 64 - 32) n)) [
-  | inl t ↦ absurd (let a = ltb-true (2 ^ 64 - 32) n t in omega (arith, a, l))
+  | inl t ↦ absurd (omega (arith, ltb-true (2 ^ 64 - 32) n t, l))
   | inr f ↦ f
 ]
 
@@ -23,9 +22,9 @@ module _ (limit : ℕ) (w : State) (S : IsSound limit w) where
   pub numbers-left : (kind : Kind) → IsTrue (list_all is_appended w.journal) →
       are_numbers_used_up (sight_of w) (aim_of kind) ≡ false
   numbers-left (PutJob name bytes) appended =
-      not-above (next_id w.records) (let a = ids-small limit w S appended in omega (arith, a))
+      not-above (next_id w.records) (omega (arith, ids-small limit w S appended))
   numbers-left AuditJob appended =
-      not-above (next_audit w.records) (let a = audits-small limit w S appended in omega (arith, a))
+      not-above (next_audit w.records) (omega (arith, audits-small limit w S appended))
   numbers-left kind appended = refl
 
   -- a job that runs has a next action
@@ -58,8 +57,7 @@ module _ (limit : ℕ) (w : State) (S : IsSound limit w) where
   -- the append in flight is of a job that runs, at the move that comes next
   pub holder : (a : Append) → w.append ≡ Some a → (job : Job) × (job_of w.jobs a.job ≡ Some job) ×
       ((action : Action) × (next_action w job ≡ Some action) × (a.moves ≡ moves_before action))
-  holder a flight =
-      (let A = S.append a flight in
+  holder a flight = (let A = S.append a flight in
       let n = next-some a.job A.job A.runs in
       let e = moves-next w A.job n.0 (moves_made w.append a.job) n.1 (S.jobs a.job A.job A.runs).order in
       (A.job, A.runs, (n.0, n.1, sym (mine a a.job refl) ∙ (ap (λ f. moves_made f a.job) (sym flight) ∙ e))))

@@ -19,8 +19,7 @@ actions-onward s job given = refl
 left-onward : (w : State) (job : Job) (given : List Given) (action : Action) →
     next_action w job ≡ Some action → (action ≡ End → ⊥) →
     actions_left (setup_in w) job ≡ action ∷ actions_left (setup_in w) (onward job job.subject given)
-left-onward w job given action next n =
-    next-left w job action next n
+left-onward w job given action next n = next-left w job action next n
     ∙ ap (λ xs. action ∷ drop (job.place + 1) xs) (sym (actions-onward (setup_in w) job given))
 
 -- one action further, what a job has left is in order, with the moves made that its action leaves
@@ -37,8 +36,7 @@ order-onward w job given moves action next n o =
 pub count-onward : (w : State) (job : Job) (given : List Given) (action : Action) →
     next_action w job ≡ Some action → (action ≡ End → ⊥) →
     appends_left (setup_in w) job ≡ gates action + appends_left (setup_in w) (onward job job.subject given)
-count-onward w job given action next n =
-    ap appends_in (left-onward w job given action next n)
+count-onward w job given action next n = ap appends_in (left-onward w job given action next n)
     ∙ appends-cons action (actions_left (setup_in w) (onward job job.subject given))
 
 -- ---- the job that made an action
@@ -46,8 +44,7 @@ count-onward w job given action next n =
 -- a put or an audit at place 3 makes the fourth move of its append
 pub not-three : (series : Series) (w : State) (job : Job) (action : Action) → Draws series job.kind →
     next_action w job ≡ Some action → ends_append action ≡ false → job.place ≡ 3 → ⊥
-not-three series w job action d next plain three =
-    false≢true (sym plain
+not-three series w job action d next plain three = false≢true (sym plain
     ∙ ap ends_append (same_value _ action SyncGate next (at_three series w job d three)))
 
 module _ (s : Setup) (rs : List Record) (bytes now : ℕ → List ℕ)
@@ -64,7 +61,7 @@ module _ (s : Setup) (rs : List Record) (bytes now : ℕ → List ℕ)
       appends_left s next ≡ appends_left s job → HasDrawn s rs bytes job name content →
       HasDrawn s rs now next name content
   drawn-on job next name content same count d = record {
-    drawn = (let a = d.drawn in omega (arith, a, same));
+    drawn = omega (arith, d.drawn, same);
     bytes_are = ap now same ∙ (stay job.subject d.drawn ∙ d.bytes_are);
     started = λ l. ap (started_as rs) same ∙ d.started (omega (arith, l, count));
   }
@@ -72,9 +69,8 @@ module _ (s : Setup) (rs : List Record) (bytes now : ℕ → List ℕ)
   -- what stands ready for another job stays
   pub kept-ready : (job : Job) (kind : Kind) → IsReady s rs bytes job kind → IsReady s rs now job kind
   kept-ready job (PutJob name content) r = λ l. drawn-on job job name content refl refl (r l)
-  kept-ready job (GetJob name) r = r
   kept-ready job (DropJob name) r = tt
-  kept-ready job kind r = r
+  kept-ready job _ r = r
 
   -- another job stays as it was
   pub kept : (moves made : ℕ) (job : Job) → made ≡ moves → IsSoundJob s rs bytes moves job →

@@ -9,8 +9,7 @@ at_first : (x : Job) (js : List Job) (n : ℕ) (j : Job) → job_of (x ∷ js) n
 at_first x js n j h = elim (cases_Bool (x.number == n)) [
   | inl t ↦ inl (
     eqb-true x.number n t,
-    same_value _ j x h
-        (cond_true (x.number == n) (Some x) (job_of js n) t),
+    same_value _ j x h (cond_true (x.number == n) (Some x) (job_of js n) t),
   )
   | inr f ↦ inr (f, sym (cond_false (x.number == n) (Some x) (job_of js n) f) ∙ h)
 ]
@@ -74,17 +73,15 @@ still-without (x ∷ js) n k j apart h = elim (cases_Bool (x.number == n)) [
 pub only-with : (js : List Job) (next before i : Job) → job_of js next.number ≡ Some before → js ≡ i ∷ [] →
     (k : ℕ) (j : Job) → job_of (with_job js next) k ≡ Some j → with_job js next ≡ j ∷ []
 only-with js next before i runs one k j h =
-    (let number : i.number ≡ next.number =
-    elim (at_first i [] next.number before (ap (λ l. job_of l next.number) (sym one) ∙ runs)) [
+    (let now = ap (λ l. with_job l next) one ∙ with-first i [] next (elim
+    (at_first i [] next.number before (ap (λ l. job_of l next.number) (sym one) ∙ runs)) [
       | inl p ↦ p.0
       | inr q ↦ absurd (let e : None ≡ Some before = q.1 in cc)
-    ] in
-    let now : with_job js next ≡ next ∷ [] = ap (λ l. with_job l next) one ∙ with-first i [] next number in
-    let same : j ≡ next = elim (at_first next [] k j (ap (λ l. job_of l k) (sym now) ∙ h)) [
+    ]) in
+    now ∙ ap (λ x. x ∷ []) (sym (elim (at_first next [] k j (ap (λ l. job_of l k) (sym now) ∙ h)) [
       | inl p ↦ p.1
       | inr q ↦ absurd (let e : None ≡ Some j = q.1 in cc)
-    ] in
-    now ∙ ap (λ (x : Job). x ∷ []) (sym same))
+    ])))
 
 -- none is left where it is taken out
 pub only-without : (js : List Job) (n : ℕ) (before i : Job) → job_of js n ≡ Some before → js ≡ i ∷ [] →
@@ -94,9 +91,8 @@ only-without js n before i runs one k j h =
       | inl p ↦ p.0
       | inr q ↦ absurd (let e : None ≡ Some before = q.1 in cc)
     ] in
-    let none : without_job js n ≡ [] = ap (λ l. without_job l n) one
-    ∙ without-first i [] n (eq-eqb i.number n number) in
-    (let e : None ≡ Some j = ap (λ l. job_of l k) (sym none) ∙ h in cc))
+    (let e : None ≡ Some j = ap (λ l. job_of l k) (sym (ap (λ l. without_job l n) one
+    ∙ without-first i [] n (eq-eqb i.number n number))) ∙ h in cc))
 
 -- two numbers of one job are the same
 pub only-number : (js : List Job) (i : Job) → js ≡ i ∷ [] → (k l : ℕ) (x y : Job) → job_of js k ≡ Some x →
@@ -117,18 +113,17 @@ pub sum-with : (f : Job → ℕ) (js : List Job) (job before : Job) → job_of j
 sum-with f [] job before h = absurd (let e : None ≡ Some before = h in cc)
 sum-with f (x ∷ js) job before h = elim (at_first x js job.number before h) [
   | inl p ↦ (let a = ap (sum_by f) (with-first x js job p.0) ∙ sum_by-cons f job js in
-      let b = sum_by-cons f x js in let c = ap f p.1 in omega (arith, a, b, c))
+      omega (arith, a, sum_by-cons f x js, ap f p.1))
   | inr q ↦ (let a = ap (sum_by f) (with-later x js job q.0) ∙ sum_by-cons f x (with_job js job) in
-      let b = sum_by-cons f x js in let c = sum-with f js job before q.1 in omega (arith, a, b, c))
+      omega (arith, a, sum_by-cons f x js, sum-with f js job before q.1))
 ]
 
 sum-without_le : (f : Job → ℕ) (js : List Job) (n : ℕ) → sum_by f (without_job js n) ≤ sum_by f js
 sum-without_le f [] n = omega arith
 sum-without_le f (x ∷ js) n = elim (cases_Bool (x.number == n)) [
-  | inl t ↦ (let a = ap (sum_by f) (without-first x js n t) in let b = sum_by-cons f x js in
-      let c = sum-without_le f js n in omega (arith, a, b, c))
+  | inl t ↦ omega (arith, ap (sum_by f) (without-first x js n t), sum_by-cons f x js, sum-without_le f js n)
   | inr o ↦ (let a = ap (sum_by f) (without-later x js n o) ∙ sum_by-cons f x (without_job js n) in
-      let b = sum_by-cons f x js in let c = sum-without_le f js n in omega (arith, a, b, c))
+      omega (arith, a, sum_by-cons f x js, sum-without_le f js n))
 ]
 
 -- a sum over jobs is less by at least the part of one that is taken out
@@ -137,15 +132,14 @@ pub sum-without : (f : Job → ℕ) (js : List Job) (n : ℕ) (j : Job) → job_
 sum-without f [] n j h = absurd (let e : None ≡ Some j = h in cc)
 sum-without f (x ∷ js) n j h = elim (at_first x js n j h) [
   | inl p ↦ (let a = ap (sum_by f) (without-first x js n (eq-eqb x.number n p.0)) in
-      let b = sum_by-cons f x js in let c = sum-without_le f js n in let d = ap f p.1 in
-      omega (arith, a, b, c, d))
+      omega (arith, a, sum_by-cons f x js, sum-without_le f js n, ap f p.1))
   | inr q ↦ (let a = ap (sum_by f) (without-later x js n q.0) ∙ sum_by-cons f x (without_job js n) in
-      let b = sum_by-cons f x js in let c = sum-without f js n j q.1 in omega (arith, a, b, c))
+      omega (arith, a, sum_by-cons f x js, sum-without f js n j q.1))
 ]
 
 -- the part of one job is no more than the sum
 pub sum-member : (f : Job → ℕ) (js : List Job) (n : ℕ) (j : Job) → job_of js n ≡ Some j → f j ≤ sum_by f js
-sum-member f js n j h = (let a = sum-without f js n j h in omega (arith, a))
+sum-member f js n j h = omega (arith, sum-without f js n j h)
 
 -- a sum over jobs and one more job
 pub sum-more : (f : Job → ℕ) (js : List Job) (x : Job) → sum_by f (js ++ x ∷ []) ≡ sum_by f js + f x
@@ -158,15 +152,15 @@ pub length-with : (js : List Job) (job : Job) → length (with_job js job) ≡ l
 length-with [] job = refl
 length-with (x ∷ js) job = elim (cases_Bool (x.number == job.number)) [
   | inl t ↦ ap length (with-first x js job (eqb-true x.number job.number t))
-  | inr f ↦ ap length (with-later x js job f) ∙ (let e = length-with js job in omega (arith, e))
+  | inr f ↦ ap length (with-later x js job f) ∙ omega (arith, length-with js job)
 ]
 
 -- when a job is taken out there are no more jobs than before
 pub length-without : (js : List Job) (n : ℕ) → length (without_job js n) ≤ length js
 length-without [] n = omega arith
 length-without (x ∷ js) n = elim (cases_Bool (x.number == n)) [
-  | inl t ↦ (let a = ap length (without-first x js n t) in let c = length-without js n in omega (arith, a, c))
-  | inr o ↦ (let a = ap length (without-later x js n o) in let c = length-without js n in omega (arith, a, c))
+  | inl t ↦ omega (arith, ap length (without-first x js n t), length-without js n)
+  | inr o ↦ omega (arith, ap length (without-later x js n o), length-without js n)
 ]
 
 -- ---- numbers
@@ -174,7 +168,7 @@ length-without (x ∷ js) n = elim (cases_Bool (x.number == n)) [
 numbered-lower : (low high : ℕ) (js : List Job) (next : ℕ) → low ≤ high → AreNumbered high js next →
     AreNumbered low js next
 numbered-lower low high [] next l h = omega (arith, l, h)
-numbered-lower low high (x ∷ js) next l h = ((let a = h.0 in omega (arith, l, a)), h.1)
+numbered-lower low high (x ∷ js) next l h = ((omega (arith, l, h.0)), h.1)
 
 -- numbers stay in order when a job goes on
 pub numbered-with : (low : ℕ) (js : List Job) (next : ℕ) (job : Job) → AreNumbered low js next →
@@ -194,7 +188,7 @@ pub numbered-without : (low : ℕ) (js : List Job) (next n : ℕ) → AreNumbere
 numbered-without low [] next n h = h
 numbered-without low (x ∷ js) next n h = elim (cases_Bool (x.number == n)) [
   | inl t ↦ subst (λ l. AreNumbered low l next) (sym (without-first x js n t))
-      (numbered-lower low (x.number + 1) (without_job js n) next (let a = h.0 in omega (arith, a))
+      (numbered-lower low (x.number + 1) (without_job js n) next (omega (arith, h.0))
       (numbered-without (x.number + 1) js next n h.1))
   | inr f ↦ subst (λ l. AreNumbered low l next) (sym (without-later x js n f))
       (h.0, numbered-without (x.number + 1) js next n h.1)
@@ -208,15 +202,14 @@ numbered-more low (y ∷ js) next x e h = (h.0, numbered-more (y.number + 1) js 
 
 numbered-low : (low : ℕ) (js : List Job) (next : ℕ) → AreNumbered low js next → low ≤ next
 numbered-low low [] next h = h
-numbered-low low (x ∷ js) next h =
-    (let a = numbered-low (x.number + 1) js next h.1 in let b = h.0 in omega (arith, a, b))
+numbered-low low (x ∷ js) next h = (omega (arith, numbered-low (x.number + 1) js next h.1, h.0))
 
 -- the number of a job that runs is below the next one
 pub numbered-below : (low : ℕ) (js : List Job) (next k : ℕ) (j : Job) → AreNumbered low js next →
     job_of js k ≡ Some j → k < next
 numbered-below low [] next k j h f = absurd (let e : None ≡ Some j = f in cc)
 numbered-below low (x ∷ js) next k j h f = elim (at_first x js k j f) [
-  | inl p ↦ (let a = numbered-low (x.number + 1) js next h.1 in let b = p.0 in omega (arith, a, b))
+  | inl p ↦ omega (arith, numbered-low (x.number + 1) js next h.1, p.0)
   | inr q ↦ numbered-below (x.number + 1) js next k j h.1 q.1
 ]
 
@@ -230,8 +223,7 @@ mine a number e = cond_true (a.job == number) a.moves 0 (eq-eqb a.job number e)
 pub not-mine : (flight : Option Append) (number : ℕ) (a : Append) → flight ≡ Some a → 1 ≤ a.moves →
     moves_made flight number ≡ 0 → a.job ≡ number → ⊥
 not-mine flight number a is begun none e =
-    (let c = ap (λ f. moves_made f number) (sym is) ∙ none in let d = mine a number e in
-    omega (arith, begun, c, d))
+    (omega (arith, begun, ap (λ f. moves_made f number) (sym is) ∙ none, (mine a number e)))
 
 -- any job but that of the append in flight has made no move
 pub other : (a : Append) (number : ℕ) → (a.job ≡ number → ⊥) → moves_made (Some a) number ≡ 0
@@ -243,7 +235,7 @@ pub made-some : (flight : Option Append) (number : ℕ) → 0 < moves_made fligh
 made-some None number l = absurd (omega (arith, l))
 made-some (Some a) number l = elim (cases_eq a.job number) [
   | inl e ↦ (a, refl, e, sym (mine a number e))
-  | inr n ↦ absurd (let z = other a number n in omega (arith, l, z))
+  | inr n ↦ absurd (omega (arith, l, other a number n))
 ]
 
 -- jobs of higher numbers stay where one of a lower is taken out

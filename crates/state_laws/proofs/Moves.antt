@@ -1,5 +1,5 @@
 -- Sound states after the first three moves of an append.
-use Rattle.state_laws.proofs.Words.{◌≡◌, ◌<◌, ◌==◌, Bool, true, false, cond, Option, refl, ap, sym, subst, ◌∙◌, inl, inr, arith, cases_lt, cases_eq, false≢true, some-not-none, Record, next_id, next_audit, Kind, PutJob, GetJob, DropJob, AuditJob, RepairJob, UpgradeJob, Given, Job, job_of, with_job, Action, WriteBody, End, ends_append, appends_left, actions_left, State, Append, Doubt, setup_in, journal_end, Writes, is_first_append, subject_drawn, bytes_drawn, audits_drawn, next_action, same_value, found_itself, objects, Draws, first_above, drawn_later, moves_made, moves_after, IsInOrder, MayFollow, MayFollowIn, IsSoundJob, IsGatedDoubt, IsDoubtOf, IsSoundAppend, IsPutUnderWay, IsSound}
+use Rattle.state_laws.proofs.Words.{◌≡◌, ◌<◌, ◌==◌, Bool, true, false, cond, Option, refl, ap, sym, subst, ◌∙◌, inl, inr, arith, cases_lt, cases_eq, false≢true, some-not-none, Record, next_id, next_audit, Kind, PutJob, AuditJob, RepairJob, Given, Job, job_of, with_job, Action, WriteBody, End, ends_append, appends_left, actions_left, State, Append, Doubt, setup_in, journal_end, Writes, is_first_append, subject_drawn, bytes_drawn, audits_drawn, next_action, same_value, found_itself, objects, Draws, first_above, drawn_later, moves_made, moves_after, IsInOrder, MayFollow, MayFollowIn, IsSoundJob, IsGatedDoubt, IsDoubtOf, IsSoundAppend, IsPutUnderWay, IsSound}
 use Rattle.std.proofs.Common.{ℕ, ◌+◌, ◌≤◌, ◌^◌, List, Some, None}
 use Rattle.machine_defs.proofs.Events.{drawn_bytes}
 use Rattle.state_laws.proofs.Orders.{put-second, audit-second}
@@ -52,24 +52,21 @@ module _ (limit : ℕ) (old : State) (S : IsSound limit old) (job : Job)
   repair-same : job.kind ≡ RepairJob → drawn_number ≡ job.subject
   repair-same kind = ap (subject_drawn old job) kind
 
-  -- after its first move what is left of the job is in order, with as many appends to finish
-  pub body-order : next_action old job ≡ Some WriteBody →
-      IsInOrder 1 (actions_left (setup_in old) (onward job drawn_number job.given)) ×
-      (appends_left (setup_in old) (onward job drawn_number job.given) ≡ appends_left (setup_in old) job)
+  -- what is left of the job is in order after its first move, with as many appends to finish
+  abbrev pub HasBegun : ℕ → Type 0
+  HasBegun n = IsInOrder 1 (actions_left (setup_in old) (onward job n job.given)) ×
+      (appends_left (setup_in old) (onward job n job.given) ≡ appends_left (setup_in old) job)
+
+  pub body-order : next_action old job ≡ Some WriteBody → HasBegun drawn_number
   body-order next = by_kind job.kind refl
     where
-      same : drawn_number ≡ job.subject →
-          IsInOrder 1 (actions_left (setup_in old) (onward job drawn_number job.given)) ×
-          (appends_left (setup_in old) (onward job drawn_number job.given) ≡ appends_left (setup_in old) job)
-      same e = subst (λ n. IsInOrder 1 (actions_left (setup_in old) (onward job n job.given)) ×
-          (appends_left (setup_in old) (onward job n job.given) ≡ appends_left (setup_in old) job)) (sym e) (
-            (order-now limit old S job runs WriteBody job.given next (λ f. cc)).1,
-            count-now limit old S job runs WriteBody job.given next (λ f. cc) refl,
-          )
+      same : drawn_number ≡ job.subject → HasBegun drawn_number
+      same e = subst HasBegun (sym e) (
+        (order-now limit old S job runs WriteBody job.given next (λ f. cc)).1,
+        count-now limit old S job runs WriteBody job.given next (λ f. cc) refl,
+      )
 
-      by_kind : (kind : Kind) → job.kind ≡ kind →
-          IsInOrder 1 (actions_left (setup_in old) (onward job drawn_number job.given)) ×
-          (appends_left (setup_in old) (onward job drawn_number job.given) ≡ appends_left (setup_in old) job)
+      by_kind : (kind : Kind) → job.kind ≡ kind → HasBegun drawn_number
       by_kind (PutJob name bytes) kind = elim (cases_lt job.place 4) [
         | inl l ↦ put-second old job (onward job drawn_number job.given) name bytes kind next l refl refl
         | inr l ↦ same (later-same l)
@@ -89,9 +86,12 @@ module _ (limit : ℕ) (old : State) (S : IsSound limit old) (job : Job)
   abbrev first_flight : Record → Append
   first_flight entry = record { job = job.number; entry = entry; moves = 1 }
 
+  abbrev begun_state : Record → State
+  begun_state entry = gone_on old (onward job drawn_number job.given) (Some (first_flight entry)) old.doubt
+      (bytes_drawn old job job.kind) (audits_drawn old job job.kind)
+
   begun-append : (entry : Record) → next_action old job ≡ Some WriteBody → Writes old job job.kind entry →
-      IsSoundAppend (gone_on old (onward job drawn_number job.given) (Some (first_flight entry)) old.doubt
-      (bytes_drawn old job job.kind) (audits_drawn old job job.kind)) (first_flight entry)
+      IsSoundAppend (begun_state entry) (first_flight entry)
   unfolding setup_in
   begun-append entry next writes = record {
     job = onward job drawn_number job.given;
@@ -108,11 +108,8 @@ module _ (limit : ℕ) (old : State) (S : IsSound limit old) (job : Job)
 
   -- the state is sound after the first move of an append
   pub begun-sound : (entry : Record) → old.is_open ≡ true → old.is_barred ≡ false → old.append ≡ None →
-      next_action old job ≡ Some WriteBody → Writes old job job.kind entry →
-      IsSound limit (gone_on old (onward job drawn_number job.given) (Some (first_flight entry)) old.doubt
-      (bytes_drawn old job job.kind) (audits_drawn old job job.kind))
-  begun-sound entry opened unbarred free next writes =
-      (let o = body-order next in
+      next_action old job ≡ Some WriteBody → Writes old job job.kind entry → IsSound limit (begun_state entry)
+  begun-sound entry opened unbarred free next writes = (let o = body-order next in
       let undoubted : old.doubt ≡ None = subst (λ f. IsDoubtOf f old.doubt) free
       (S.undoubted opened unbarred) in
       going-sound limit old S job runs (onward job drawn_number job.given)
@@ -127,19 +124,14 @@ module _ (limit : ℕ) (old : State) (S : IsSound limit old) (job : Job)
       (subst (λ m. IsInOrder m (actions_left (setup_in old) (onward job drawn_number job.given)))
       (sym (mine (first_flight entry) job.number refl)) o.0) own-job)
       (went-ready (setup_in old) old.journal old.bytes (bytes_drawn old job job.kind)
-      (λ id l. drawn_bytes old job job.kind id (let e = S.journal.alike.id in omega (arith, l, e))) old
+      (λ id l. drawn_bytes old job job.kind id (omega (arith, l, S.journal.alike.id))) old
       job drawn_number job.given WriteBody next refl later-same repair-same o.1 job.kind refl
       (S.in_journal job.number job runs))
       (under-way job.kind drawn_number WriteBody job.given refl next refl later-same) o.1
-      (λ a flight. subst (λ x. IsSoundAppend
-      (gone_on old (onward job drawn_number job.given) (Some (first_flight entry)) old.doubt
-      (bytes_drawn old job job.kind) (audits_drawn old job job.kind)) x) (the-one entry a flight)
+      (λ a flight. subst (IsSoundAppend (begun_state entry)) (same_value _ (first_flight entry) a refl flight)
       (begun-append entry next writes))
       (λ b. absurd (false≢true (sym unbarred ∙ b))) (λ p q. undoubted)
       (λ d h. absurd (some-not-none old.doubt d h undoubted)))
-    where
-      the-one : (entry : Record) (a : Append) → Some (first_flight entry) ≡ Some a → first_flight entry ≡ a
-      the-one entry a h = cc
 
   -- ---- the second and the third move
 
@@ -160,11 +152,11 @@ module _ (limit : ℕ) (old : State) (S : IsSound limit old) (job : Job)
       begun = omega arith;
       undone = omega (arith, few);
       writes = writes-on old job job.subject action job.kind a.entry refl next plain (λ l. refl) (λ l. refl)
-          (subst (λ (x : Job). Writes old x x.kind a.entry) is_job A.writes);
+          (subst (λ x. Writes old x x.kind a.entry) is_job A.writes);
       drawn = subst (λ n. subject_drawn old (onward job n job.given) job.kind ≡ n) drawn_job
           (drawn-on old job action job.kind refl next plain);
       bytes = λ id. bytes-on old job job.subject old.bytes action job.kind id refl next plain
-          (sym (subst (λ (x : Job). bytes_drawn old x x.kind id ≡ old.bytes id) is_job (A.bytes id)));
+          (sym (subst (λ x. bytes_drawn old x x.kind id ≡ old.bytes id) is_job (A.bytes id)));
       follows = A.follows;
     }
       where
@@ -176,8 +168,7 @@ module _ (limit : ℕ) (old : State) (S : IsSound limit old) (job : Job)
             (subst (λ n. job_of old.jobs n ≡ Some (S.append a flight).job) own (S.append a flight).runs) runs
 
         drawn_job : subject_drawn old job job.kind ≡ job.subject
-        drawn_job = subst (λ (x : Job). subject_drawn old x x.kind ≡ x.subject) is_job
-            (S.append a flight).drawn
+        drawn_job = subst (λ x. subject_drawn old x x.kind ≡ x.subject) is_job (S.append a flight).drawn
 
     -- the state is sound after the second move and after the third, with the record then in doubt
     pub moved-sound : (action : Action) (doubt : Option Doubt) → next_action old job ≡ Some action →
@@ -201,11 +192,7 @@ module _ (limit : ℕ) (old : State) (S : IsSound limit old) (job : Job)
         (λ id l. refl) old job job.subject job.given action next plain (λ l. refl)
         (λ l. refl) count job.kind refl (S.in_journal job.number job runs))
         (under-way job.kind job.subject action job.given refl next plain (λ l. refl)) count
-        (λ b h. subst (λ x. IsSoundAppend
-        (gone_on old next_job (Some moved_flight) doubt old.bytes old.audits) x)
-        (the-one moved_flight b h) (moved-append action doubt next plain few))
+        (λ b h. subst (IsSoundAppend (gone_on old next_job (Some moved_flight) doubt old.bytes old.audits))
+        (same_value _ moved_flight b refl h) (moved-append action doubt next plain few))
         (λ b. absurd (false≢true (sym unbarred ∙ b))) (λ p q. gated)
         doubts)
-      where
-        the-one : (x b : Append) → Some x ≡ Some b → x ≡ b
-        the-one x b h = cc

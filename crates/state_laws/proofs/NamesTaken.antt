@@ -1,5 +1,5 @@
 -- How many names are taken: names that stand once each and all stand among others are no more than those.
-use Rattle.state_laws.proofs.Words.{◌≡◌, suc, Bool, true, false, cond, ◌⊎◌, ◌||◌, length, refl, ap, sym, subst, ◌∙◌, inl, inr, arith, is_some, list_any, cases_Bool, false≢true, Record, File, is_same_name, files_of, file_of, find_file, are_ordered, same-eq, same-refl, find-files_of, same-sym, before-irrefl, is_below, ordered-files_of, Aim, ToPut, ToGet, ToDrop, ToAudit, ToRepair, ToUpgrade, aim_of, Job, job_of, puts_name, aims_of, is_name_among, with_name, names_in, with_puts, cond_true, cond_false, any_job, any-aims}
+use Rattle.state_laws.proofs.Words.{◌≡◌, suc, Bool, true, false, cond, ◌⊎◌, ◌||◌, length, refl, ap, sym, subst, ◌∙◌, inl, inr, arith, is_some, list_any, cases_Bool, false≢true, Record, File, is_same_name, files_of, file_of, find_file, are_ordered, same-eq, same-refl, find-files_of, same-sym, before-irrefl, is_below, ordered-files_of, Aim, ToPut, aim_of, Job, job_of, puts_name, aims_of, is_name_among, with_name, names_in, with_puts, cond_true, cond_false, any_job, any-aims}
 use Rattle.std.proofs.Common.{ℕ, ◌+◌, ◌≤◌, List, [], ◌∷◌, Some}
 
 -- names that stand once each
@@ -31,16 +31,13 @@ listed-without (y ∷ ys) x n f = grind (arith, f, listed-without ys x n f, same
 pub fewer : (xs ys : List (List ℕ)) → AreOnce xs →
     ((n : List ℕ) → is_name_among xs n ≡ true → is_name_among ys n ≡ true) → length xs ≤ length ys
 fewer [] ys o h = omega arith
-fewer (x ∷ xs) ys o h =
-    (let here : is_name_among ys x ≡ true = h x (grind (arith, same-refl x)) in
-    let r = fewer xs (names_without ys x) o.1 (λ n i. later n i (cases_Bool (is_same_name x n))) in
-    let l = length-without_listed ys x here in omega (arith, r, l))
+fewer (x ∷ xs) ys o h = (let l = length-without_listed ys x (h x (grind (arith, same-refl x))) in
+    omega (arith, fewer xs (names_without ys x) o.1 (λ n i. later n i (cases_Bool (is_same_name x n))), l))
   where
     later : (n : List ℕ) → is_name_among xs n ≡ true →
         (is_same_name x n ≡ true) ⊎ (is_same_name x n ≡ false) → is_name_among (names_without ys x) n ≡ true
-    later n i (inl t) = absurd
-        (false≢true (sym o.0 ∙ subst (λ m. is_name_among xs m ≡ true) (sym (same-eq x n t)) i))
-    later n i (inr f) = listed-without ys x n f ∙ h n (grind (arith, i))
+    later n i (inl t) = absurd (false≢true (sym o.0 ∙ (rw (← (same-eq x n t)) at i)))
+    later n i (inr f) = listed-without ys x n f ∙ h n (grind arith)
 
 listed-with_name : (names : List (List ℕ)) (name n : List ℕ) →
     is_name_among (with_name names name) n ≡ (is_same_name n name || is_name_among names n)

@@ -1,6 +1,6 @@
 -- The actions of each job are in order, and each of its actions goes one on in it.
-use Rattle.state_laws.proofs.Words.{◌≡◌, zero, suc, ◌-◌, ◌<◌, true, false, cond, ◌++◌, length, drop, refl, ap, sym, subst, ◌∙◌, inl, inr, arith, count_by, slice_get, flat_map, sum_by-cons, sum_by-append, sum_by-take-drop, Each, each_get, each_append, each_map, each_flat, drop-get, upto, Setup, Kind, PutJob, GetJob, DropJob, AuditJob, RepairJob, UpgradeJob, Pinned, Job, Action, WriteBody, SyncBody, WriteGate, SyncGate, Store, Fetch, Ask, Work, Remove, End, append_actions, on_each_provider, on_each_stripe, store_actions, open_actions, read_actions, rewrite_actions, repair_actions, rounds_of, ask_actions, remove_actions, actions_by, actions_of, actions_left, ends_append, appends_left, profiled, stripes_of, State, setup_in, next_action, split_get, next_stands, moves_before, moves_after, IsInOrder}
-use Rattle.std.proofs.Common.{ℕ, ◌+◌, ◌≤◌, List, [], ◌∷◌, Some, None}
+use Rattle.state_laws.proofs.Words.{◌≡◌, zero, suc, ◌-◌, ◌<◌, true, false, cond, ◌++◌, length, drop, refl, ap, sym, subst, ◌∙◌, inl, inr, arith, count_by, slice_get, flat_map, sum_by-cons, sum_by-append, sum_by-take-drop, Each, each_get, each_append, each_map, each_flat, drop-get, upto, Setup, Kind, PutJob, GetJob, DropJob, AuditJob, RepairJob, UpgradeJob, Pinned, Job, Action, WriteBody, SyncBody, WriteGate, SyncGate, Store, Fetch, Ask, Work, Remove, End, append_actions, on_each_provider, on_each_stripe, store_actions, open_actions, read_actions, rewrite_actions, repair_actions, rounds_of, ask_actions, remove_actions, actions_by, actions_of, actions_left, ends_append, appends_left, profiled, stripes_of, State, setup_in, next_action, split_get, next_stands, same_value, moves_before, moves_after, IsInOrder}
+use Rattle.std.proofs.Common.{ℕ, ◌+◌, ◌≤◌, List, [], ◌∷◌, Some}
 
 -- ---- lists of actions
 
@@ -70,11 +70,9 @@ others-open s object stripe = each_append IsOther (on_each_provider s (λ j. Fet
     (Work object stripe ∷ []) (each_map IsOther (λ j. Fetch j object stripe) (upto s.n) (λ j. tt)) (tt, tt)
 
 others-reads : (s : Setup) (pinned : List Pinned) → Each IsOther (read_actions s pinned)
-others-reads s pinned =
-    each_flat IsOther (λ (f : Pinned). on_each_stripe (profiled s f.profile) (length f.bytes)
-    (open_actions s f.id)) pinned
-    (λ f. each_flat IsOther (open_actions s f.id) (upto (stripes_of (profiled s f.profile) (length f.bytes)))
-    (λ stripe. others-open s f.id stripe))
+others-reads s pinned = each_flat IsOther (λ f. on_each_stripe (profiled s f.profile) (length f.bytes)
+    (open_actions s f.id)) pinned (λ f. each_flat IsOther (open_actions s f.id)
+    (upto (stripes_of (profiled s f.profile) (length f.bytes))) (λ stripe. others-open s f.id stripe))
 
 others-cond : (b : _) (action : Action) → IsOther action → Each IsOther (cond b (action ∷ []) [])
 others-cond true action h = (h, tt)
@@ -82,23 +80,20 @@ others-cond false action h = tt
 
 -- nothing that a repair does on its files is a move of an append or an End
 pub others-repairs : (s : Setup) (job : Job) → Each IsOther (repair_actions s job)
-others-repairs s job =
-    each_flat IsOther (λ (f : Pinned). on_each_stripe (profiled s f.profile) (length f.bytes)
+others-repairs s job = each_flat IsOther (λ f. on_each_stripe (profiled s f.profile) (length f.bytes)
     (λ stripe. open_actions s f.id stripe ++ rewrite_actions s job f.id stripe)) job.pinned
     (λ f. each_flat IsOther (λ stripe. open_actions s f.id stripe ++ rewrite_actions s job f.id stripe)
-    (upto (stripes_of (profiled s f.profile) (length f.bytes)))
-    (λ stripe. each_append IsOther (open_actions s f.id stripe) (rewrite_actions s job f.id stripe)
-    (others-open s f.id stripe)
+    (upto (stripes_of (profiled s f.profile) (length f.bytes))) (λ stripe. each_append IsOther
+    (open_actions s f.id stripe) (rewrite_actions s job f.id stripe) (others-open s f.id stripe)
     (each_flat IsOther (λ j. cond (job.flagged j) (Store j f.id stripe ∷ []) []) (upto s.n)
     (λ j. others-cond (job.flagged j) (Store j f.id stripe) tt))))
 
 -- what each ask is, those of a job are
 pub each-ask : (P : Action → Type 0) → ((j object round : ℕ) → P (Ask j object round)) →
     (s : Setup) (job : Job) → Each P (ask_actions s job)
-each-ask P h s job = each_flat P
-    (λ (f : Pinned). flat_map (λ round. on_each_provider s (λ j. Ask j f.id round))
-    (rounds_of (profiled s f.profile) (length f.bytes))) job.pinned
-    (λ f. each_flat P (λ round. on_each_provider s (λ j. Ask j f.id round))
+each-ask P h s job = each_flat P (λ (f : Pinned). flat_map
+    (λ round. on_each_provider s (λ j. Ask j f.id round)) (rounds_of (profiled s f.profile) (length f.bytes)))
+    job.pinned (λ f. each_flat P (λ round. on_each_provider s (λ j. Ask j f.id round))
     (rounds_of (profiled s f.profile) (length f.bytes))
     (λ round. each_map P (λ j. Ask j f.id round) (upto s.n) (λ j. h j f.id round)))
 
@@ -154,8 +149,7 @@ appends_in actions = count_by ends_append actions
 -- where no action is a move of an append, no append ends
 pub appends-others : (xs : List Action) → Each IsOther xs → appends_in xs ≡ 0
 appends-others [] h = refl
-appends-others (x ∷ xs) h =
-    sum_by-cons gates x xs ∙ (let e = first x h.0 in let r = appends-others xs h.1 in omega (arith, e, r))
+appends-others (x ∷ xs) h = sum_by-cons gates x xs ∙ omega (arith, first x h.0, appends-others xs h.1)
   where
     first : (x : Action) → IsOther x → gates x ≡ 0
     first WriteBody i = absurd i
@@ -175,20 +169,18 @@ pub appends-order : (moves : ℕ) (actions : List Action) → 0 < moves → IsIn
     0 < appends_in actions
 appends-order moves [] l o = absurd o
 appends-order moves (SyncBody ∷ actions) l o =
-    (let r = appends-order 2 actions (omega arith) o.1 in let c = appends-cons SyncBody actions in
-    omega (arith, r, c))
+    (omega (arith, appends-order 2 actions (omega arith) o.1, appends-cons SyncBody actions))
 appends-order moves (WriteGate ∷ actions) l o =
-    (let r = appends-order 3 actions (omega arith) o.1 in let c = appends-cons WriteGate actions in
-    omega (arith, r, c))
-appends-order moves (SyncGate ∷ actions) l o = (let c = appends-cons SyncGate actions in omega (arith, c))
-appends-order moves actions l o = absurd (let e = o.0 in omega (arith, l, e))
+    (omega (arith, appends-order 3 actions (omega arith) o.1, appends-cons WriteGate actions))
+appends-order moves (SyncGate ∷ actions) l o = omega (arith, appends-cons SyncGate actions)
+appends-order moves actions l o = absurd (omega (arith, l, o.0))
 
 -- the appends of two lists, one behind the other, add up
 pub appends-append : (xs ys : List Action) → appends_in (xs ++ ys) ≡ appends_in xs + appends_in ys
 appends-append xs ys = sum_by-append gates xs ys
 
 appends-drop : (xs : List Action) (p : ℕ) → appends_in (drop p xs) ≤ appends_in xs
-appends-drop xs p = (let e = sum_by-take-drop gates xs p in omega (arith, e))
+appends-drop xs p = omega (arith, sum_by-take-drop gates xs p)
 
 -- four moves in front are one append more
 pub appends-move : (ys : List Action) → appends_in (append_actions ++ ys) ≡ 1 + appends_in ys
@@ -197,19 +189,16 @@ appends-move ys = appends-append append_actions ys
 -- among removals and an end no append ends
 pub appends-removals : (s : Setup) (job : Job) → appends_in (drop_rest s job) ≡ 0
 appends-removals s job = appends-append (remove_actions s job) (End ∷ [])
-    ∙ (let e = appends-others (remove_actions s job) (others-removals s job) in omega (arith, e))
+    ∙ omega (arith, appends-others (remove_actions s job) (others-removals s job))
 
 appends-put_rest : (s : Setup) (job : Job) (bytes : List ℕ) → appends_in (put_rest s job bytes) ≡ 1
-appends-put_rest s job bytes =
-    appends-append (store_actions s job bytes) (append_actions ++ drop_rest s job)
+appends-put_rest s job bytes = appends-append (store_actions s job bytes) (append_actions ++ drop_rest s job)
     ∙ (let e = appends-others (store_actions s job bytes) (others-stores s job bytes) in
-    let f = appends-move (drop_rest s job) in let g = appends-removals s job in omega (arith, e, f, g))
+    omega (arith, e, appends-move (drop_rest s job), appends-removals s job))
 
 appends-audit_rest : (s : Setup) (job : Job) → appends_in (audit_rest s job) ≡ 1
-appends-audit_rest s job =
-    appends-append (ask_actions s job) (append_actions ++ End ∷ [])
-    ∙ (let e = appends-others (ask_actions s job) (others-asks s job) in let f = appends-move (End ∷ []) in
-    omega (arith, e, f))
+appends-audit_rest s job = appends-append (ask_actions s job) (append_actions ++ End ∷ [])
+    ∙ (omega (arith, appends-others (ask_actions s job) (others-asks s job), appends-move (End ∷ [])))
 
 -- within the first append of a list, and behind it
 appends-within : (ys : List Action) (p : ℕ) → p < 4 →
@@ -245,10 +234,8 @@ module _ (s : Setup) (job : Job) where
   -- a put has at most one append left once its first one is done
   pub put-later : (name bytes : List ℕ) → job.kind ≡ PutJob name bytes → 4 ≤ job.place →
       appends_left s job ≤ 1
-  put-later name bytes kind l =
-      (let e = appends_left-by s job ∙ ap (appends_by s job) kind in
-      let b = appends-behind (put_rest s job bytes) job.place l in let r = appends-put_rest s job bytes in
-      omega (arith, e, b, r))
+  put-later name bytes kind l = (let e = appends_left-by s job ∙ ap (appends_by s job) kind in
+      omega (arith, e, appends-behind (put_rest s job bytes) job.place l, appends-put_rest s job bytes))
 
   -- an audit has two appends left until its first one is done
   pub audit-first : job.kind ≡ AuditJob → job.place < 4 → appends_left s job ≡ 2
@@ -259,67 +246,58 @@ module _ (s : Setup) (job : Job) where
   -- an audit has at most one append left once its first one is done
   pub audit-later : job.kind ≡ AuditJob → 4 ≤ job.place → appends_left s job ≤ 1
   audit-later kind l = (let e = appends_left-by s job ∙ ap (appends_by s job) kind in
-      let b = appends-behind (audit_rest s job) job.place l in let r = appends-audit_rest s job in
-      omega (arith, e, b, r))
+      omega (arith, e, appends-behind (audit_rest s job) job.place l, appends-audit_rest s job))
 
   -- a drop has at most one append left
   pub drop-first : (name : List ℕ) → job.kind ≡ DropJob name → appends_left s job ≤ 1
-  drop-first name kind =
-      (let e = appends_left-by s job ∙ ap (appends_by s job) kind in
-      let b = appends-drop (append_actions ++ drop_rest s job) job.place in
-      let m = appends-move (drop_rest s job) in let r = appends-removals s job in omega (arith, e, b, m, r))
+  drop-first name kind = (let e = appends_left-by s job ∙ ap (appends_by s job) kind in let b = appends-drop
+      (append_actions ++ drop_rest s job) job.place in
+      omega (arith, e, b, appends-move (drop_rest s job), appends-removals s job))
 
   -- a repair has at most one append left
   pub repair-first : job.kind ≡ RepairJob → appends_left s job ≤ 1
-  repair-first kind = (let e = appends_left-by s job ∙ ap (appends_by s job) kind in
-      let b = appends-drop (repair_actions s job ++ (append_actions ++ End ∷ [])) job.place in
-      let m = appends-append (repair_actions s job) (append_actions ++ End ∷ []) in
-      let o = appends-others (repair_actions s job) (others-repairs s job) in
-      let f = appends-move (End ∷ []) in omega (arith, e, b, m, o, f))
+  repair-first kind = (let b = appends-drop (repair_actions s job ++ (append_actions ++ End ∷ [])) job.place
+      in let m = appends-append (repair_actions s job) (append_actions ++ End ∷ []) in let o = appends-others
+      (repair_actions s job) (others-repairs s job) in
+      omega (arith, appends_left-by s job ∙ ap (appends_by s job) kind, b, m, o, appends-move (End ∷ [])))
 
   -- an upgrade has at most one append left
   pub upgrade-first : job.kind ≡ UpgradeJob → appends_left s job ≤ 1
-  upgrade-first kind = (let e = appends_left-by s job ∙ ap (appends_by s job) kind in
-      let b = appends-drop (append_actions ++ End ∷ []) job.place in
-      let f = appends-move (End ∷ []) in omega (arith, e, b, f))
+  upgrade-first kind = (let b = appends-drop (append_actions ++ End ∷ []) job.place in
+      omega (arith, appends_left-by s job ∙ ap (appends_by s job) kind, b, appends-move (End ∷ [])))
 
   -- a get has no append
   pub get-none : (name : List ℕ) → job.kind ≡ GetJob name → appends_left s job ≡ 0
-  get-none name kind = (let e = appends_left-by s job ∙ ap (appends_by s job) kind in
-      let b = appends-drop (read_actions s job.pinned ++ End ∷ []) job.place in
-      let m = appends-append (read_actions s job.pinned) (End ∷ []) in
-      let o = appends-others (read_actions s job.pinned) (others-reads s job.pinned) in
-      omega (arith, e, b, m, o))
+  get-none name kind = (let b = appends-drop (read_actions s job.pinned ++ End ∷ []) job.place in let m =
+      appends-append (read_actions s job.pinned) (End ∷ []) in let o = appends-others (read_actions s
+      job.pinned) (others-reads s job.pinned) in
+      omega (arith, appends_left-by s job ∙ ap (appends_by s job) kind, b, m, o))
 
--- not the first move of an append
-abbrev IsLater : Action → Type 0
-IsLater WriteBody = ⊥
-IsLater action = Unit {0}
+-- within the first four actions of a list that begins with an append each move stands at its place
+pub moves-within : (rest : List Action) (p : ℕ) (action : Action) → p < 4 →
+    slice_get (append_actions ++ rest) p ≡ Some action → p ≡ moves_before action
+moves-within rest zero action l h = ap moves_before (same_value _ WriteBody action refl h)
+moves-within rest (suc zero) action l h = ap moves_before (same_value _ SyncBody action refl h)
+moves-within rest (suc (suc zero)) action l h = ap moves_before (same_value _ WriteGate action refl h)
+moves-within rest (suc (suc (suc zero))) action l h = ap moves_before (same_value _ SyncGate action refl h)
+moves-within rest (suc (suc (suc (suc p)))) action l h = absurd (omega arith)
+
+-- a move of an append among the actions of a drop is one of its append
+pub drop-move : (s : Setup) (job : Job) (p : ℕ) (action : Action) → (IsOther action → ⊥) →
+    (action ≡ End → ⊥) →
+    slice_get (append_actions ++ drop_rest s job) p ≡ Some action → p ≡ moves_before action
+drop-move s job p action move n h = elim (split_get append_actions (drop_rest s job) p action h) [
+  | inl a ↦ moves-within [] p action a.0 a.1
+  | inr b ↦ absurd (elim (split_get (remove_actions s job) (End ∷ []) (p - 4) action b.1) [
+    | inl r ↦ move (each_get IsOther (remove_actions s job) (p - 4) action (others-removals s job) r.1)
+    | inr e ↦ n (each_get (λ (x : Action). x ≡ End) (End ∷ []) _ action (refl, tt) e.1)
+  ])
+]
 
 -- the first move of a drop's append stands at the start of its list
 pub drop-body : (s : Setup) (job : Job) (p : ℕ) →
     slice_get (append_actions ++ drop_rest s job) p ≡ Some WriteBody → p ≡ 0
-drop-body s job p h = elim (split_get append_actions (drop_rest s job) p WriteBody h) [
-  | inl a ↦ within p a.1
-  | inr b ↦ absurd (each_get IsLater (drop_rest s job) (p - 4) WriteBody
-      (each_append IsLater (remove_actions s job) (End ∷ [])
-      (later (remove_actions s job) (others-removals s job)) (tt, tt)) b.1)
-]
-  where
-    within : (p : ℕ) → slice_get append_actions p ≡ Some WriteBody → p ≡ 0
-    within zero h = refl
-    within (suc zero) h = absurd (let e : Some SyncBody ≡ Some WriteBody = h in cc)
-    within (suc (suc zero)) h = absurd (let e : Some WriteGate ≡ Some WriteBody = h in cc)
-    within (suc (suc (suc zero))) h = absurd (let e : Some SyncGate ≡ Some WriteBody = h in cc)
-    within (suc (suc (suc (suc p)))) h = absurd (let e : None ≡ Some WriteBody = h in cc)
-
-    later : (xs : List Action) → Each IsOther xs → Each IsLater xs
-    later [] h = tt
-    later (x ∷ xs) h = (one x h.0, later xs h.1)
-      where
-        one : (x : Action) → IsOther x → IsLater x
-        one WriteBody i = i
-        one x i = tt
+drop-body s job p h = drop-move s job p WriteBody (λ i. i) (λ e. cc) h
 
 -- ---- the next action
 
@@ -335,11 +313,7 @@ next-left w job action h n =
 -- within the first four actions of a list that begins with an append the first move is the first
 pub body-within : (rest : List Action) (p : ℕ) → p < 4 →
     slice_get (append_actions ++ rest) p ≡ Some WriteBody → p ≡ 0
-body-within rest zero l h = refl
-body-within rest (suc zero) l h = absurd (let e : Some SyncBody ≡ Some WriteBody = h in cc)
-body-within rest (suc (suc zero)) l h = absurd (let e : Some WriteGate ≡ Some WriteBody = h in cc)
-body-within rest (suc (suc (suc zero))) l h = absurd (let e : Some SyncGate ≡ Some WriteBody = h in cc)
-body-within rest (suc (suc (suc (suc p)))) l h = absurd (omega (arith, l))
+body-within rest p l h = moves-within rest p WriteBody l h
 
 -- the list of a put, and of an audit
 pub put-list : (s : Setup) (job : Job) (name bytes : List ℕ) → job.kind ≡ PutJob name bytes →
@@ -383,9 +357,8 @@ pub audit-second : (w : State) (job next : Job) → job.kind ≡ AuditJob → ne
     job.place < 4 → next.kind ≡ job.kind → next.place ≡ job.place + 1 →
     IsInOrder 1 (actions_left (setup_in w) next) ×
     (appends_left (setup_in w) next ≡ appends_left (setup_in w) job)
-audit-second w job next kind is l same place =
-    (let zero_place = body-within (audit_rest (setup_in w) job) job.place l
-    (ap (λ xs. slice_get xs job.place) (sym (audit-list (setup_in w) job kind))
+audit-second w job next kind is l same place = (let zero_place = body-within (audit_rest (setup_in w) job)
+    job.place l (ap (λ xs. slice_get xs job.place) (sym (audit-list (setup_in w) job kind))
     ∙ next_stands w job WriteBody is (λ e. cc)) in
     let one : next.place ≡ 1 = omega (arith, zero_place, place) in (
       second-order (setup_in w) next (audit_rest (setup_in w) next)

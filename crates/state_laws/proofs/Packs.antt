@@ -1,6 +1,6 @@
 -- The journal that a pack writes has a spelling and fits in either area; and what links a journal to its
 -- history goes on with one record more.
-use Rattle.state_laws.proofs.Words.{◌≡◌, ◌*◌, ◌<◌, ◌==◌, true, cond, ◌&&◌, length, Option, refl, ap, sym, subst, ◌∙◌, inl, inr, arith, is_some, IsTrue, nat_lt, nat_le, list_all, cases_Bool, false≢true, and_from, lt-ltb, nat_tests, In, some-not-none, Setup, Record, SetUp, PutStart, PutDone, Drop, AuditStart, AuditDone, RepairDone, PutDoneIn, Version, Resume, InEffect, RepairDue, is_name, is_appended, is_in_grammar, largest_file, largest_journal, most_files, all_profiles, File, Due, setup_of, version_of, next_id, next_audit, started_as, with_put, file_of, files_of, find_file, due_of, refused, put_done_refused, is_crowded, AreAccepted, AreAlike, as_record, with_files, with_due, with_setup, packed, Area, A, B, other_area, entries_size, end_in, find-files_of, few-files_of, next_id-fits, next_audit-fits, State, listed_file, cond_true, cond_false, same_value, IsSoundJournal}
+use Rattle.state_laws.proofs.Words.{◌≡◌, ◌*◌, ◌<◌, ◌==◌, true, cond, ◌&&◌, length, Option, refl, ap, sym, subst, ◌∙◌, inl, inr, arith, is_some, IsTrue, nat_lt, nat_le, list_all, cases_Bool, false≢true, and_from, lt-ltb, nat_tests, In, some-not-none, Setup, Record, SetUp, PutStart, PutDone, PutDoneIn, Version, Resume, InEffect, RepairDue, is_name, is_appended, is_in_grammar, largest_file, largest_journal, most_files, all_profiles, File, Due, setup_of, version_of, next_id, next_audit, started_as, with_put, file_of, files_of, find_file, due_of, refused, put_done_refused, is_crowded, AreAccepted, AreAlike, as_record, with_files, with_due, with_setup, packed, Area, A, B, other_area, entries_size, end_in, find-files_of, few-files_of, next_id-fits, next_audit-fits, State, listed_file, cond_true, cond_false, same_value, IsSoundJournal}
 use Rattle.std.proofs.Common.{ℕ, ◌+◌, ◌^◌, ◌≤◌, List, [], ◌∷◌, Some, None}
 use Rattle.std.specs.Prelude.{not}
 use Rattle.record_defs.specs.Acceptance as no
@@ -21,8 +21,7 @@ module _ (rs : List Record) (a : AreAccepted rs) (g : AreInGrammar rs) where
   file-fits f i = file-spelled rs f.name f g (listed_file rs f i)
 
   file-record : (f : File) → In f (files_of rs) → IsTrue (is_in_grammar (as_record f))
-  file-record f i =
-      (let t = file-fits f i in
+  file-record f i = (let t = file-fits f i in
       let below = ((sound-accepted rs a).file f.name f (listed_file rs f i)).0 in
       let l = next_id-fits rs a in
       fit f.id f.size f.profile f.name (omega (arith, below, l)) t.1 t.2 t.0)
@@ -62,8 +61,7 @@ module _ (rs : List Record) (a : AreAccepted rs) (g : AreInGrammar rs) where
       entries_size (with_files fs qs) ≤ entries_size qs + 80 * length fs
   files-size [] qs each = omega arith
   files-size (f ∷ fs) qs each =
-      (let more = files-size fs (as_record f ∷ qs) (λ x i. each x (inr i)) in let one = each f (inl refl) in
-      omega (arith, more, one))
+      (omega (arith, files-size fs (as_record f ∷ qs) (λ x i. each x (inr i)), (each f (inl refl))))
 
   name-short : (f : File) → In f (files_of rs) → length f.name ≤ 64
   name-short f i = short f.name (file-fits f i).0
@@ -83,21 +81,20 @@ module _ (rs : List Record) (a : AreAccepted rs) (g : AreInGrammar rs) where
   packed-size = on_top (due_of rs) refl
     where
       files : entries_size (with_files (files_of rs) base) ≤ 81983
-      files = (let b = base-size in let f = files-size (files_of rs) base name-short in
-          let n = few-files_of rs a in omega (arith, b, f, n))
+      files = omega (arith, base-size, files-size (files_of rs) base name-short, few-files_of rs a)
 
       few : (d : Due) → IsTrue (is_in_grammar (RepairDue d.number d.counts)) → length d.counts ≤ 16
       few d h = grind (arith, nat_tests, h)
 
       on_top : (o : Option Due) → due_of rs ≡ o →
           entries_size (with_due o (with_files (files_of rs) base)) ≤ 2 ^ 17
-      on_top None e = (let f = files in omega (arith, f))
-      on_top (Some d) e = (let f = files in let c = few d (due-spelled rs d g e) in omega (arith, f, c))
+      on_top None e = omega (arith, files)
+      on_top (Some d) e = omega (arith, files, few d (due-spelled rs d g e))
 
   -- a packed journal fits in either area
   packed-room : (area : Area) → end_in area (packed rs) ≤ largest_journal
-  packed-room A = (let s = packed-size in omega (arith, s))
-  packed-room B = (let s = packed-size in omega (arith, s))
+  packed-room A = omega (arith, packed-size)
+  packed-room B = omega (arith, packed-size)
 
 -- ---- a journal and its history
 
@@ -125,15 +122,14 @@ AreStarted rs qs = (id : ℕ) (name : List ℕ) → started_as rs id ≡ Some na
 
 starts-alike : (rs qs : List Record) (r : Record) → refused rs r ≡ None → AreStarted rs qs →
     StartsAlike rs qs r
-starts-alike rs qs (PutDone id size) h f k e =
-    (let t = started-in rs (started_as rs id) (grind (arith, nat_tests, h)) in
-    let same : id ≡ k = same_value (Some id) id k refl e in
-    subst (λ n. started_as rs n ≡ started_as qs n) same (t.1 ∙ sym (f id t.0 t.1)))
+starts-alike rs qs (PutDone id size) h f k e = (let t = started-in rs (started_as rs id) (grind arith) in
+    let same = same_value (Some id) id k refl e in
+    (rw same at (t.1 ∙ sym (f id t.0 t.1))))
 starts-alike rs qs (PutDoneIn id size profile) h f k e =
-    (let t = started-in rs (started_as rs id) (grind (arith, nat_tests, h)) in
-    let same : id ≡ k = same_value (Some id) id k refl e in
-    subst (λ n. started_as rs n ≡ started_as qs n) same (t.1 ∙ sym (f id t.0 t.1)))
-starts-alike rs qs r h f k e = absurd (let x : None ≡ Some k = e in cc)
+    (let t = started-in rs (started_as rs id) (grind arith) in
+    let same = same_value (Some id) id k refl e in
+    (rw same at (t.1 ∙ sym (f id t.0 t.1))))
+starts-alike rs qs r h f k e = absurd (cc e)
 
 -- tables stay alike with any record more
 alike-any : (rs qs : List Record) (r : Record) → StartsAlike rs qs r → AreAlike rs qs →
@@ -217,9 +213,8 @@ due-not-appended (Some due) rs none h = none (appended-rest (RepairDue due.numbe
 -- a packed journal has a record that no job appends
 pub packed-not-appended : (rs : List Record) → AreAppended (packed rs) → ⊥
 packed-not-appended rs = due-not-appended (due_of rs) (with_files (files_of rs) lowest)
-    (files-not-appended (files_of rs) lowest
-    (λ a. false≢true (appended-first (Resume (next_id rs) (next_audit rs))
-    (Version ∷ with_setup (setup_of rs)) a)))
+    (files-not-appended (files_of rs) lowest (λ a. false≢true
+    (appended-first (Resume (next_id rs) (next_audit rs)) (Version ∷ with_setup (setup_of rs)) a)))
   where
     lowest : List Record
     lowest = Resume (next_id rs) (next_audit rs) ∷ Version ∷ with_setup (setup_of rs)
@@ -227,15 +222,13 @@ packed-not-appended rs = due-not-appended (due_of rs) (with_files (files_of rs) 
 -- the packed journal in place of that of the second version
 pub journal-packed : (old new : State) → new.records ≡ old.records → new.journal ≡ packed old.journal →
     version_of old.records ≡ 2 → IsSoundJournal old → IsSoundJournal new
-journal-packed old new er ej second J =
-    (let second_too : version_of old.journal ≡ 2 = J.alike.version ∙ second in
+journal-packed old new er ej second J = (let second_too = J.alike.version ∙ second in
     let s = is_some-at (setup_of old.journal) (second-set_up old.journal J.accepted second_too) in
     record {
-      accepted = subst AreAccepted (sym ej) (packed_are old.journal J.accepted s.0 s.1 second_too).0;
-      spelled = subst AreInGrammar (sym ej) (packed-spelled old.journal J.accepted J.spelled);
+      accepted = rw (← ej) at (packed_are old.journal J.accepted s.0 s.1 second_too).0;
+      spelled = rw (← ej) at (packed-spelled old.journal J.accepted J.spelled);
       alike = subst (λ l. AreAlike l new.records) (sym ej)
-          (subst (λ l. AreAlike (packed old.journal) l) (sym er)
-          (packed-alike old.journal old.records s.0 J.accepted s.1 second_too J.alike));
+          (rw (← er) at (packed-alike old.journal old.records s.0 J.accepted s.1 second_too J.alike));
       started = λ id name h. absurd
           (some-not-none _ name h (ap (λ l. started_as l id) ej ∙ (packed_is_idle old.journal).0 id));
       whole = λ v. absurd (packed-not-appended old.journal (sym (ap (list_all is_appended) ej) ∙ v));

@@ -1,5 +1,5 @@
 -- The files that a job works on from its begin on: each once, in ascending order, and stored.
-use Rattle.state_laws.proofs.Words.{◌≡◌, suc, true, false, length, Option, refl, ap, sym, subst, ◌∙◌, inl, inr, arith, is_some, nat_lt, Contains, cases_Bool, cases_eq, false≢true, ltb-true, In, most_files, File, setup_of, version_of, profile_in, file_of, files_of, is_same_name, AreAccepted, same-refl, few-files_of, Kind, PutJob, GetJob, DropJob, AuditJob, RepairJob, UpgradeJob, Pinned, machine_pins, State, file_in, pinned_file, pin_by, pin_all, pin_found, pinned_for, is_name_among, names_in, cond_true, cond_false, Stands, in_all, pinned_stands, AreSound, listed_file, AreAscending, AreHeld, HasPins, IsPin}
+use Rattle.state_laws.proofs.Words.{◌≡◌, suc, true, false, length, Option, refl, ap, sym, subst, ◌∙◌, inl, inr, arith, is_some, nat_lt, Contains, cases_Bool, cases_eq, false≢true, ltb-true, In, most_files, File, setup_of, version_of, profile_in, file_of, files_of, is_same_name, AreAccepted, same-refl, few-files_of, Kind, PutJob, GetJob, DropJob, UpgradeJob, Pinned, machine_pins, State, file_in, pinned_file, pin_by, pin_all, pin_found, pinned_for, is_name_among, names_in, cond_true, cond_false, Stands, in_all, pinned_stands, AreSound, listed_file, AreAscending, AreHeld, HasPins, IsPin}
 use Rattle.std.proofs.Common.{ℕ, ◌+◌, ◌≤◌, List, [], ◌∷◌, Some, None}
 use Rattle.machine_defs.proofs.Held.{contains_in}
 use Rattle.state_laws.proofs.NamesTaken.{AreOnce, once-files}
@@ -24,7 +24,7 @@ ascending-pin low p [] h l n = (l, tt)
 ascending-pin low p (q ∷ qs) h l n = elim (cases_Bool (nat_lt p.id q.id)) [
   | inl t ↦ subst (AreAscending low)
       (sym (cond_true (nat_lt p.id q.id) (p ∷ q ∷ qs) (q ∷ pin_by machine_pins p qs) t))
-      (l, ((let a = ltb-true p.id q.id t in omega (arith, a)), h.1))
+      (l, ((omega (arith, ltb-true p.id q.id t)), h.1))
   | inr f ↦ subst (AreAscending low)
       (sym (cond_false (nat_lt p.id q.id) (p ∷ q ∷ qs) (q ∷ pin_by machine_pins p qs) f))
       (h.0, ascending-pin (q.id + 1) p qs h.1 (above f (n q (inl refl))) (λ r i. n r (inr i)))
@@ -34,7 +34,7 @@ ascending-pin low p (q ∷ qs) h l n = elim (cases_Bool (nat_lt p.id q.id)) [
     above f m = elim (cases_eq p.id q.id) [
       | inl e ↦ absurd (m e)
       | inr o ↦ elim (cases_Bool (nat_lt q.id p.id)) [
-        | inl t ↦ (let a = ltb-true q.id p.id t in omega (arith, a))
+        | inl t ↦ omega (arith, ltb-true q.id p.id t)
         | inr g ↦ absurd (omega (arith, not-below p.id q.id f, not-below q.id p.id g, o))
       ]
     ]
@@ -45,17 +45,15 @@ ascending-pin low p (q ∷ qs) h l n = elim (cases_Bool (nat_lt p.id q.id)) [
 unlisted : (fs : List File) (g : File) (name : List ℕ) → is_name_among (names_in fs) name ≡ false → In g fs →
     name ≡ g.name → ⊥
 unlisted [] g name f i e = absurd i
-unlisted (x ∷ fs) g name f (inl s) e = false≢true
-    (sym f ∙ (let t : is_same_name name x.name ≡ true =
-    ap (is_same_name name) (sym (e ∙ ap (λ (z : File). z.name) s)) ∙ same-refl name in grind (arith, t)))
+unlisted (x ∷ fs) g name f (inl s) e = false≢true (sym f ∙ (let t : is_same_name name x.name ≡ true
+    = ap (is_same_name name) (sym (e ∙ ap (λ (z : File). z.name) s)) ∙ same-refl name in grind (arith, t)))
 unlisted (x ∷ fs) g name f (inr i) e = unlisted fs g name (grind (arith, f)) i e
 
 ascending-all : (w : State) (fs : List File) → AreSound w.records → AreOnce (names_in fs) →
     ((g : File) → In g fs → file_of w.records g.name ≡ Some g) → AreAscending 0 (pin_all w fs)
 ascending-all w [] S once held = tt
 ascending-all w (f ∷ fs) S once held = ascending-pin 0 (pinned_file w f) (pin_all w fs)
-    (ascending-all w fs S once.1 (λ g i. held g (inr i))) (omega arith)
-    (λ q i e. (let r = in_all w fs q i in
+    (ascending-all w fs S once.1 (λ g i. held g (inr i))) (omega arith) (λ q i e. (let r = in_all w fs q i in
     unlisted fs r.0 f.name once.0 r.1
     (S.one_name f.name r.0.name f r.0 (held f (inl refl)) (held r.0 (inr r.1))
     (e ∙ ap (λ (x : Pinned). x.id) r.2))))
@@ -67,8 +65,7 @@ module _ (w : State) (accepted : AreAccepted w.records) (spelled : AreInGrammar 
       (once-files w.records) (λ g i. listed_file w.records g i)
 
   all-few : length (pin_all w (files_of w.records)) ≤ most_files
-  all-few = (let a = length-pin_all w (files_of w.records) in let b = few-files_of w.records accepted in
-      omega (arith, a, b))
+  all-few = omega (arith, length-pin_all w (files_of w.records), few-files_of w.records accepted)
 
   -- the files that a job begins with ascend by their numbers
   pub pins-ascend : (kind : Kind) → AreAscending 0 (pinned_for w kind)
@@ -103,8 +100,8 @@ module _ (w : State) (accepted : AreAccepted w.records) (spelled : AreInGrammar 
         drawn = ((sound-accepted w.records accepted).file st.name st.file st.in_effect).0;
         bytes_are = refl;
         spelled = (files st.name st.file st.in_effect).0;
-        size = (let a = (files st.name st.file st.in_effect).1 in
-            let b = (file-spelled w.records st.name st.file spelled st.in_effect).1 in omega (arith, a, b));
+        size = (let b = (file-spelled w.records st.name st.file spelled st.in_effect).1 in
+            omega (arith, (files st.name st.file st.in_effect).1, b));
       })
 
   -- in the first version they have the setup's profile
@@ -118,8 +115,7 @@ pub has-pins : (w : State) (kind : Kind) →
     ((name : List ℕ) → kind ≡ GetJob name → is_some (file_in w name) ≡ true) →
     HasPins kind (pinned_for w kind)
 has-pins w (PutJob name bytes) h = refl
-has-pins w (GetJob name) h =
-    (let f = is_some-at (file_in w name) (h name refl) in
+has-pins w (GetJob name) h = (let f = is_some-at (file_in w name) (h name refl) in
     (pinned_file w f.0, ap (pin_found (pinned_file w)) f.1))
 has-pins w (DropJob name) h = refl
 has-pins w kind h = tt

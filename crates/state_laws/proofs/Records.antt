@@ -1,5 +1,5 @@
 -- What holds of records that the fold accepts and that are in the grammar, and how one record more keeps it.
-use Rattle.state_laws.proofs.Words.{◌≡◌, ◌<◌, ◌==◌, true, false, ◌⊎◌, length, Option, refl, ap, sym, subst, ◌∙◌, inl, inr, arith, is_some, IsTrue, list_all, cases_Bool, false≢true, and_parts, and_from, nat_tests, some-not-none, Setup, Record, SetUp, PutStart, PutDone, Drop, AuditStart, AuditDone, RepairDone, is_name, is_appended, is_in_grammar, largest_file, all_profiles, PutDoneIn, Version, Resume, InEffect, RepairDue, File, Due, file_as, profile_in, setup_of, version_of, next_id, next_audit, started_as, is_same_name, is_start_of, file_of, due_of, exceeds, entries_size, same-eq, refused, AreAccepted, AreBytes, cond_true, cond_false, same_value, AreSound, IsHeld, BringsHeld, AreHeld}
+use Rattle.state_laws.proofs.Words.{◌≡◌, ◌<◌, ◌==◌, true, false, ◌⊎◌, length, Option, refl, ap, sym, subst, ◌∙◌, inl, inr, arith, is_some, IsTrue, list_all, cases_Bool, false≢true, and_parts, and_from, nat_tests, some-not-none, Setup, Record, SetUp, PutStart, PutDone, Drop, AuditDone, RepairDone, is_name, is_appended, is_in_grammar, largest_file, all_profiles, PutDoneIn, Version, Resume, InEffect, RepairDue, File, Due, file_as, profile_in, setup_of, version_of, next_id, next_audit, started_as, is_same_name, is_start_of, file_of, due_of, exceeds, entries_size, same-eq, refused, AreAccepted, AreBytes, cond_true, cond_false, same_value, AreSound, IsHeld, BringsHeld, AreHeld}
 use Rattle.std.proofs.Common.{ℕ, ◌+◌, ◌≤◌, ◌^◌, List, [], ◌∷◌, Some, None}
 use Rattle.record_defs.specs.Acceptance as no
 use Rattle.record_defs.proofs.SoundLaws.{are_sound, next_id-more}
@@ -65,9 +65,7 @@ next_id-one r rs g = omega arith
 pub next_id-le : (rs : List Record) → AreAppended rs → next_id rs ≤ 1 + entries_size rs
 next_id-le [] g = omega arith
 next_id-le (r ∷ rs) g =
-    let l = next_id-le rs (appended-rest r rs g) in
-    let one = next_id-one r rs (appended-first r rs g) in
-    omega (arith, l, one)
+    omega (arith, next_id-le rs (appended-rest r rs g), next_id-one r rs (appended-first r rs g))
 
 next_audit-one : (r : Record) (rs : List Record) → IsTrue (is_appended r) →
     next_audit (r ∷ rs) ≤ next_audit rs + 1
@@ -78,9 +76,7 @@ next_audit-one r rs g = omega arith
 pub next_audit-le : (rs : List Record) → AreAppended rs → next_audit rs ≤ 1 + entries_size rs
 next_audit-le [] g = omega arith
 next_audit-le (r ∷ rs) g =
-    let l = next_audit-le rs (appended-rest r rs g) in
-    let one = next_audit-one r rs (appended-first r rs g) in
-    omega (arith, l, one)
+    omega (arith, next_audit-le rs (appended-rest r rs g), next_audit-one r rs (appended-first r rs g))
 
 -- no accepted record makes the next object number smaller
 pub next_id-grows : (r : Record) (rs : List Record) → AreAccepted (r ∷ rs) → next_id rs ≤ next_id (r ∷ rs)
@@ -152,7 +148,7 @@ first-appended (r ∷ rs) a v = appended-more r rs (first-appended-one r rs v a.
 pub second-set_up : (rs : List Record) → AreAccepted rs → version_of rs ≡ 2 → is_some (setup_of rs) ≡ true
 second-set_up rs a v = elim (cases_Bool (is_some (setup_of rs))) [
   | inl t ↦ t
-  | inr f ↦ absurd (let e = ap version_of (none-set_up rs a f) in omega (arith, e, v))
+  | inr f ↦ absurd (omega (arith, ap version_of (none-set_up rs a f), v))
 ]
 
 -- ---- setups, names, sizes and numbers of records that have a spelling
@@ -161,8 +157,7 @@ second-set_up rs a v = elim (cases_Bool (is_some (setup_of rs))) [
 pub setup-spelled : (rs : List Record) (s : Setup) → AreInGrammar rs → setup_of rs ≡ Some s →
     IsTrue (is_in_grammar (SetUp s))
 setup-spelled [] s g h = absurd (some-not-none _ s h refl)
-setup-spelled (SetUp t ∷ rs) s g h =
-    (let e : t ≡ s = cc in subst (λ x. IsTrue (is_in_grammar (SetUp x))) e (grammar-first (SetUp t) rs g))
+setup-spelled (SetUp t ∷ rs) s g h = (let e : t ≡ s = cc in (rw e at (grammar-first (SetUp t) rs g)))
 setup-spelled (r ∷ rs) s g h = setup-spelled rs s (grammar-rest r rs g) h
 
 -- a name that a put was started under is a name
@@ -204,13 +199,13 @@ pub data Came (rs : List Record) (r : Record) (name : List ℕ) (file : File) : 
 pub file-came : (r : Record) (rs : List Record) (name : List ℕ) (file : File) →
     file_of (r ∷ rs) name ≡ Some file → (file_of rs name ≡ Some file) ⊎ Came rs r name file
 file-came (PutDone k size) rs name file h =
-    let new : File = file_as name k size (profile_in (setup_of rs)) in
+    let new = file_as name k size (profile_in (setup_of rs)) in
     elim (cases_Bool (is_start_of name (started_as rs k))) [
-      | inl t ↦ (let same : new ≡ file = same_value _ new file
+      | inl t ↦ (let same = same_value _ new file
           (cond_true (is_start_of name (started_as rs k)) (Some new) (file_of rs name) t) h in
-          inr (Came.done (ap (λ (f : File). PutDone f.id f.size) same)
-          (ap (λ (f : File). started_as rs f.id) (sym same) ∙ start-named name (started_as rs k) t)
-          (ap (λ (f : File). f.profile) (sym same))))
+          inr (Came.done (ap (λ f. PutDone f.id f.size) same)
+          (ap (λ f. started_as rs f.id) (sym same) ∙ start-named name (started_as rs k) t)
+          (ap (λ f. f.profile) (sym same))))
       | inr f ↦ inl (sym (cond_false (is_start_of name (started_as rs k)) (Some new) (file_of rs name) f) ∙ h)
     ]
 file-came (Drop n) rs name file h = elim (cases_Bool (is_same_name n name)) [
@@ -218,21 +213,20 @@ file-came (Drop n) rs name file h = elim (cases_Bool (is_same_name n name)) [
   | inr f ↦ inl (sym (cond_false (is_same_name n name) None (file_of rs name) f) ∙ h)
 ]
 file-came (PutDoneIn k size profile) rs name file h =
-    let new : File = file_as name k size profile in
+    let new = file_as name k size profile in
     elim (cases_Bool (is_start_of name (started_as rs k))) [
-      | inl t ↦ (let same : new ≡ file = same_value _ new file
+      | inl t ↦ (let same = same_value _ new file
           (cond_true (is_start_of name (started_as rs k)) (Some new) (file_of rs name) t) h in
-          inr (Came.done_in (ap (λ (f : File). PutDoneIn f.id f.size f.profile) same)
-          (ap (λ (f : File). started_as rs f.id) (sym same) ∙ start-named name (started_as rs k) t)))
+          inr (Came.done_in (ap (λ f. PutDoneIn f.id f.size f.profile) same)
+          (ap (λ f. started_as rs f.id) (sym same) ∙ start-named name (started_as rs k) t)))
       | inr f ↦ inl (sym (cond_false (is_start_of name (started_as rs k)) (Some new) (file_of rs name) f) ∙ h)
     ]
 file-came (InEffect k size profile n) rs name file h =
-    let new : File = file_as name k size profile in
+    let new = file_as name k size profile in
     elim (cases_Bool (is_same_name n name)) [
-      | inl t ↦ (let same : new ≡ file = same_value _ new file
-          (cond_true (is_same_name n name) (Some new) (file_of rs name) t) h in
-          inr (Came.brought (ap (λ m. InEffect k size profile m) (same-eq n name t)
-          ∙ ap (λ (f : File). InEffect f.id f.size f.profile name) same)))
+      | inl t ↦ (inr (Came.brought (ap (λ m. InEffect k size profile m) (same-eq n name t)
+          ∙ ap (λ f. InEffect f.id f.size f.profile name) (same_value _ new file
+          (cond_true (is_same_name n name) (Some new) (file_of rs name) t) h))))
       | inr f ↦ inl (sym (cond_false (is_same_name n name) (Some new) (file_of rs name) f) ∙ h)
     ]
 file-came r rs name file h = inl h
@@ -261,26 +255,25 @@ file-spelled (r ∷ rs) name file g h = elim (file-came r rs name file h) [
   | inr new ↦ elim new [
     | Came.done is started profile ↦ (
       started-spelled rs file.id name (grammar-rest r rs g) started,
-      done-size (subst (λ x. IsTrue (is_in_grammar x)) is (grammar-first r rs g)),
-      (let l = profile-fits rs (grammar-rest r rs g) in omega (arith, l, profile)),
+      done-size (rw is at (grammar-first r rs g)),
+      (let l = profile-fits rs (grammar-rest r rs g) in omega arith),
     )
-    | Came.done_in is started ↦
-        (let f = in-fits (subst (λ x. IsTrue (is_in_grammar x)) is (grammar-first r rs g)) in
+    | Came.done_in is started ↦ (let f = in-fits (rw is at (grammar-first r rs g)) in
         (started-spelled rs file.id name (grammar-rest r rs g) started, f.0, f.1))
-    | Came.brought is ↦ kept-fits (subst (λ x. IsTrue (is_in_grammar x)) is (grammar-first r rs g))
+    | Came.brought is ↦ kept-fits (rw is at (grammar-first r rs g))
   ]
 ]
   where
     done-size : IsTrue (is_in_grammar (PutDone file.id file.size)) → file.size ≤ largest_file
-    done-size h = grind (arith, nat_tests, h)
+    done-size h = grind arith
 
     in-fits : IsTrue (is_in_grammar (PutDoneIn file.id file.size file.profile)) →
         (file.size ≤ largest_file) × (file.profile < all_profiles)
-    in-fits h = (grind (arith, nat_tests, h), grind (arith, nat_tests, h))
+    in-fits h = (grind arith, grind arith)
 
     kept-fits : IsTrue (is_in_grammar (InEffect file.id file.size file.profile name)) →
         (is_name name ≡ true) × (file.size ≤ largest_file) × (file.profile < all_profiles)
-    kept-fits h = (grind (arith, nat_tests, h), grind (arith, nat_tests, h), grind (arith, nat_tests, h))
+    kept-fits h = (grind arith, grind arith, grind arith)
 
 -- in the first version each file has the setup's profile
 pub file-plain : (rs : List Record) (name : List ℕ) (file : File) → AreAccepted rs → version_of rs ≡ 1 →
@@ -292,13 +285,11 @@ file-plain (r ∷ rs) name file a v h = elim (file-came r rs name file h) [
   | inr new ↦ elim new [
     | Came.done is started profile ↦ profile
         ∙ ap profile_in (sym (subst (λ x. setup_of (x ∷ rs) ≡ setup_of rs) (sym is) refl))
-    | Came.done_in is started ↦
-        absurd (let e : refused rs (PutDoneIn file.id file.size file.profile) ≡ None =
-        sym (ap (refused rs) is) ∙ a.0 in
+    | Came.done_in is started ↦ absurd (let e : refused rs (PutDoneIn file.id file.size file.profile) ≡ None
+        = sym (ap (refused rs) is) ∙ a.0 in
         let k = version-before r rs v in grind (arith, nat_tests, e, k))
-    | Came.brought is ↦ absurd
-        (let k : IsTrue (is_appended (InEffect file.id file.size file.profile name)) =
-        subst (λ x. IsTrue (is_appended x)) is (first-appended-one r rs v a.0) in false≢true k)
+    | Came.brought is ↦ absurd (let k : IsTrue (is_appended (InEffect file.id file.size file.profile name))
+        = subst (λ x. IsTrue (is_appended x)) is (first-appended-one r rs v a.0) in false≢true k)
   ]
 ]
   where
@@ -314,10 +305,9 @@ pub due-spelled : (rs : List Record) (due : Due) → AreInGrammar rs → due_of 
 due-spelled [] due g h = absurd (some-not-none _ due h refl)
 due-spelled (AuditDone number undecided counts ∷ rs) due g h =
     elim (cases_Bool (exceeds (setup_of rs) counts)) [
-      | inl t ↦ (let same : record { number = number; counts = counts } ≡ due =
-          same_value _ (record { number = number; counts = counts }) due
-          (cond_true (exceeds (setup_of rs) counts) (Some (record { number = number; counts = counts }))
-          (due_of rs) t) h in
+      | inl t ↦ (let same : record { number = number; counts = counts } ≡ due = same_value _
+          (record { number = number; counts = counts }) due (cond_true (exceeds (setup_of rs) counts)
+          (Some (record { number = number; counts = counts })) (due_of rs) t) h in
           subst (λ (d : Due). IsTrue (is_in_grammar (RepairDue d.number d.counts))) same
           (fits (grammar-first (AuditDone number undecided counts) rs g)))
       | inr f ↦ due-spelled rs due (grammar-rest (AuditDone number undecided counts) rs g)
@@ -329,9 +319,8 @@ due-spelled (AuditDone number undecided counts ∷ rs) due g h =
         IsTrue (is_in_grammar (RepairDue number counts))
     fits h = grind (arith, nat_tests, h)
 due-spelled (RepairDone number ∷ rs) due g h = absurd (some-not-none _ due h refl)
-due-spelled (RepairDue number counts ∷ rs) due g h =
-    (let same : record { number = number; counts = counts } ≡ due =
-    same_value (Some (record { number = number; counts = counts }))
+due-spelled (RepairDue number counts ∷ rs) due g h = (let same : record { number = number; counts = counts } ≡
+    due = same_value (Some (record { number = number; counts = counts }))
     (record { number = number; counts = counts }) due refl h in
     subst (λ (d : Due). IsTrue (is_in_grammar (RepairDue d.number d.counts))) same
     (grammar-first (RepairDue number counts) rs g))

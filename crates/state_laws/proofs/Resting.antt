@@ -28,8 +28,7 @@ kept-brought w v r er ej ea es eb none still m K = record {
   files = subst (λ b. AreHeld b v.records) (sym eb)
       (subst (AreHeld w.bytes) (sym er) (held-more w.bytes r w.records m.held K.files));
   journal = journal-brought w v r er ej m.spelled m.in_journal K.journal;
-  room = (let e = ap (λ area. end_in area v.journal) ea ∙ ap (end_in w.area) ej in let a = m.room in
-      omega (arith, a, e));
+  room = omega (arith, m.room, ap (λ area. end_in area v.journal) ea ∙ ap (end_in w.area) ej);
   switching = λ e. absurd (still (sym es ∙ e));
   doubt = λ d h. absurd (some-not-none v.doubt d h none);
 }
@@ -37,23 +36,20 @@ kept-brought w v r er ej ea es eb none still m K = record {
 -- what may follow a state may follow one of the same records, journal, area and bytes
 follows-in : (w u : State) (r : Record) → u.records ≡ w.records → u.journal ≡ w.journal →
     u.area ≡ w.area → u.bytes ≡ w.bytes → MayFollowIn w r → MayFollowIn u r
-follows-in w u r er ej ea eb m =
-    subst (λ rs. MayFollow rs u.journal (end_in u.area u.journal) u.bytes r) (sym er)
-    (subst (λ js. MayFollow w.records js (end_in u.area js) u.bytes r) (sym ej)
-    (subst (λ area. MayFollow w.records w.journal (end_in area w.journal) u.bytes r) (sym ea)
-    (subst (λ b. MayFollow w.records w.journal (journal_end w) b r) (sym eb) m)))
+follows-in w u r er ej ea eb m = subst (λ rs. MayFollow rs u.journal (end_in u.area u.journal) u.bytes r)
+    (sym er) (subst (λ js. MayFollow w.records js (end_in u.area js) u.bytes r) (sym ej)
+    (rw (← ea) at (subst (λ b. MayFollow w.records w.journal (journal_end w) b r) (sym eb) m)))
 
 -- such a state is kept, with a switch and a doubt of its own
 kept-as : (w v : State) → v.records ≡ w.records → v.journal ≡ w.journal → v.area ≡ w.area →
     v.bytes ≡ w.bytes → (v.is_switching ≡ true → IsSwitchable v) →
     ((d : Doubt) → v.doubt ≡ Some d → MayFollowIn w d.entry) → IsKept w → IsKept v
 kept-as w v er ej ea eb switching doubt K = record {
-  accepted = subst AreAccepted (sym er) K.accepted;
-  spelled = subst AreInGrammar (sym er) K.spelled;
-  files = subst (λ b. AreHeld b v.records) (sym eb) (subst (AreHeld w.bytes) (sym er) K.files);
+  accepted = rw (← er) at K.accepted;
+  spelled = rw (← er) at K.spelled;
+  files = rw (← eb) at (subst (AreHeld w.bytes) (sym er) K.files);
   journal = journal-same w v er ej ea K.journal;
-  room = (let e = ap (λ area. end_in area v.journal) ea ∙ ap (end_in w.area) ej in let a = K.room in
-      omega (arith, a, e));
+  room = omega (arith, K.room, ap (λ area. end_in area v.journal) ea ∙ ap (end_in w.area) ej);
   switching = switching;
   doubt = λ d h. follows-in w v d.entry er ej ea eb (doubt d h);
 }
@@ -65,9 +61,8 @@ setup-follows w s K none valid = record {
   spelled = valid;
   accepted = cond_false (is_some (setup_of w.records)) _ _ none;
   in_journal = cond_false (is_some (setup_of w.journal)) _ _ (ap is_some K.journal.alike.setup ∙ none);
-  room = (let empty = none-set_up w.journal K.journal.accepted (ap is_some K.journal.alike.setup ∙ none) in
-      let e : journal_end w ≡ end_in A [] = ap (λ area. end_in area w.journal) (K.journal.first empty)
-      ∙ ap (end_in A) empty in omega (arith, e));
+  room = let empty = none-set_up w.journal K.journal.accepted (ap is_some K.journal.alike.setup ∙ none) in
+      omega (arith, ap (λ area. end_in area w.journal) (K.journal.first empty) ∙ ap (end_in A) empty);
   held = tt;
 }
 
@@ -82,18 +77,16 @@ module _ (limit : ℕ) where
     accepted = K.accepted;
     spelled = K.spelled;
     journal = K.journal;
-    room = (let a = ap (sum_by (reserved (version_of w.records) (setup_in w))) idle.0 in let b = K.room in
-        omega (arith, a, b));
+    room = omega (arith, ap (sum_by (reserved (version_of w.records) (setup_in w))) idle.0, K.room);
     files = K.files;
     names = (let a = ap (λ js. length (taken_by w.records js)) idle.0 in
-        let b = length-names_in (files_of w.records) in let c = few-files_of w.records K.accepted in
-        omega (arith, a, b, c));
-    ids = λ l. absurd (let a = ap (sum_by starts_left) idle.0 in omega (arith, l, a));
+        omega (arith, a, length-names_in (files_of w.records), few-files_of w.records K.accepted));
+    ids = λ l. absurd (omega (arith, l, ap (sum_by starts_left) idle.0));
     audits = λ k j h is_audit l. absurd (found_none w.jobs k j idle.0 h);
     closed = λ c. idle;
     set_up = set_up;
     handed = handed;
-    few = (let a = ap length idle.0 in omega (arith, a));
+    few = omega (arith, ap length idle.0);
     numbered = subst (λ js. AreNumbered 0 js w.next_job) (sym idle.0) (omega arith);
     jobs = λ k j h. absurd (found_none w.jobs k j idle.0 h);
     in_journal = λ k j h. absurd (found_none w.jobs k j idle.0 h);
@@ -121,34 +114,33 @@ module _ (limit : ℕ) where
     doubt = λ d h. absurd (some-not-none w.doubt d h r.undoubted);
   }) r.set_up r.handed (λ o. r.undoubted)
 
+  -- what the records of a start are
+  abbrev AreFit : State → List Record → Type 0
+  AreFit w rs = AreAccepted rs × AreInGrammar rs × AreHeld w.bytes rs × (end_in A rs ≤ largest_journal)
+
   first-kept : (w : State) → IsStart w → IsKept w
   first-kept w r = record {
-    accepted = accepted r.records;
-    spelled = spelled r.records;
-    files = held r.records;
-    journal = journal-whole w r.journal (λ e. r.first_area) (accepted r.records) (spelled r.records);
-    room = (let e = ap (λ area. end_in area w.journal) r.first_area ∙ ap (end_in A) r.journal in
-        let l = room r.records in omega (arith, e, l));
+    accepted = first.0;
+    spelled = first.1;
+    files = first.2;
+    journal = journal-whole w r.journal (λ e. r.first_area) first.0 first.1;
+    room = omega (arith, ap (λ area. end_in area w.journal) r.first_area ∙ ap (end_in A) r.journal, first.3);
     switching = λ e. absurd (false≢true (sym r.unswitched ∙ e));
     doubt = λ d h. absurd (some-not-none w.doubt d h r.doubt);
   }
     where
-      accepted : AreFirst w.records → AreAccepted w.records
-      accepted (inl e) = subst AreAccepted (sym e) tt
-      accepted (inr (s, valid, e)) = subst AreAccepted (sym e) (refl, tt)
+      fit : AreFirst w.records → AreFit w w.records
+      fit (inl e) = subst (AreFit w) (sym e)
+          (tt, refl, λ name file h. absurd (some-not-none _ file h refl), omega arith)
+      fit (inr (s, valid, e)) = subst (AreFit w) (sym e) (
+        (refl, tt),
+        grammar-more (SetUp s) [] valid refl,
+        λ name file h. absurd (some-not-none _ file h refl),
+        omega arith,
+      )
 
-      spelled : AreFirst w.records → AreInGrammar w.records
-      spelled (inl e) = subst AreInGrammar (sym e) refl
-      spelled (inr (s, valid, e)) = subst AreInGrammar (sym e) (grammar-more (SetUp s) [] valid refl)
-
-      room : AreFirst w.records → end_in A w.records ≤ largest_journal
-      room (inl e) = (let f = ap (end_in A) e in omega (arith, f))
-      room (inr (s, valid, e)) = (let f = ap (end_in A) e in omega (arith, f))
-
-      held : AreFirst w.records → AreHeld w.bytes w.records
-      held (inl e) = subst (AreHeld w.bytes) (sym e) (λ name file h. absurd (some-not-none _ file h refl))
-      held (inr (s, valid, e)) =
-          subst (AreHeld w.bytes) (sym e) (λ name file h. absurd (some-not-none _ file h refl))
+      first : AreFit w w.records
+      first = fit r.records
 
   -- a start is sound
   pub start-sound : (w : State) → IsStart w → IsSound limit w
@@ -165,7 +157,7 @@ module _ (limit : ℕ) where
       spelled = S.spelled;
       files = S.files;
       journal = S.journal;
-      room = (let a = S.room in omega (arith, a));
+      room = omega (arith, S.room);
       switching = S.switching;
       doubt = S.doubt;
     }
@@ -194,9 +186,8 @@ module _ (limit : ℕ) where
       spelled = S.spelled;
       files = S.files;
       journal = journal-packed old (reread old journal area) refl ej W.version S.journal;
-      room = (let e = ap (λ a. end_in a journal) ea ∙ ap (end_in (other_area old.area)) ej in
-          let r = switched-room old.journal old.area S.journal.accepted S.journal.spelled in
-          omega (arith, e, r));
+      room = (let r = switched-room old.journal old.area S.journal.accepted S.journal.spelled in
+          omega (arith, ap (λ a. end_in a journal) ea ∙ ap (end_in (other_area old.area)) ej, r));
       switching = λ e. absurd (false≢true e);
       doubt = λ d h. absurd (some-not-none old.doubt d h W.undoubted);
     })
@@ -219,8 +210,7 @@ module _ (limit : ℕ) where
       is_open = refl;
       alone = refl;
       doubt = refl;
-      kept = kept-as left (record left { doubt = None }) refl refl refl refl
-          (λ e. (let s = K.switching e in
+      kept = kept-as left (record left { doubt = None }) refl refl refl refl (λ e. (let s = K.switching e in
           record { version = s.version; undoubted = refl; jobs = s.jobs; packing = s.packing }))
           (λ d h. absurd (let e : None ≡ Some d = h in cc)) K;
     })
@@ -261,17 +251,15 @@ module _ (limit : ℕ) where
 
     -- a later call of the program begins with a sound state
     pub continues-sound : (r : Outcome) (new : State) → Continues old r new → IsSound limit new
-    continues-sound Continued new is = subst (IsSound limit) (sym is)
-        (shut (continued old) (refl, refl, refl, refl)
-        (kept-closed (continued old) refl refl refl refl refl refl refl refl) refl)
+    continues-sound Continued new is = (rw (← is) at (shut (continued old) (refl, refl, refl, refl)
+        (kept-closed (continued old) refl refl refl refl refl refl refl refl) refl))
     continues-sound r new h = absurd h
 
     -- the vault is open again
     opened : (mid : State) (faults : ℕ) → IsKept mid → mid.is_open ≡ false → mid.jobs ≡ [] →
         mid.is_switching ≡ false → IsKept (record mid { is_open = true; disk_faults = faults })
-    opened mid faults K closed none still =
-        kept-as mid (record mid { is_open = true; disk_faults = faults }) refl refl refl refl
-        (λ e. absurd (false≢true (sym still ∙ e))) K.doubt K
+    opened mid faults K closed none still = kept-as mid (record mid { is_open = true; disk_faults = faults })
+        refl refl refl refl (λ e. absurd (false≢true (sym still ∙ e))) K.doubt K
 
     still-mid : (mid : State) → Rereads old mid → mid.is_switching ≡ false
     still-mid mid (journal, area, holds, inl is) = ap (λ (w : State). w.is_switching) is
@@ -286,15 +274,13 @@ module _ (limit : ℕ) where
     -- or over what was not read
     unread : (new : State) (faults : ℕ) → new ≡ record (given_up old) { disk_faults = faults } → IsSound limit new
     unread new faults is =
-        subst (IsSound limit) (sym is)
-        (shut (record (given_up old) { disk_faults = faults }) (refl, refl, refl, refl)
-        (kept-closed (record (given_up old) { disk_faults = faults }) refl refl refl refl refl refl refl
-        refl) refl)
+        subst (IsSound limit) (sym is) (shut (record (given_up old) { disk_faults = faults })
+        (refl, refl, refl, refl) (kept-closed (record (given_up old) { disk_faults = faults }) refl refl refl
+        refl refl refl refl refl) refl)
 
     -- a reopening, refused or not, leaves a sound state
     pub reopens-sound : (r : Outcome) (new : State) → Reopens old r new → IsSound limit new
-    reopens-sound Opened new (mid, h, up, enough, (faults, low, is)) =
-        (let g = again mid h in
+    reopens-sound Opened new (mid, h, up, enough, (faults, low, is)) = (let g = again mid h in
         let w : State = record mid { is_open = true; disk_faults = faults } in
         subst (IsSound limit) (sym is)
         (idle-sound w g.1 (opened mid faults g.0 g.2 g.1.0 (still-mid mid h))
@@ -311,9 +297,8 @@ module _ (limit : ℕ) where
     -- what is in doubt after an init that failed
     left-kept : (s : Setup) (doubt : Option Doubt) (faults : ℕ) → IsTrue (is_in_grammar (SetUp s)) →
         LeavesDoubt old s doubt → IsKept (record old { doubt = doubt; disk_faults = faults })
-    left-kept s doubt faults valid leaves =
-        kept-as old (record old { doubt = doubt; disk_faults = faults }) refl refl refl refl
-        (λ e. (let s = S.switching e in
+    left-kept s doubt faults valid leaves = kept-as old (record old { doubt = doubt; disk_faults = faults })
+        refl refl refl refl (λ e. (let s = S.switching e in
         record { version = s.version; undoubted = none e leaves; jobs = s.jobs; packing = s.packing }))
         (follows leaves) kept
       where
@@ -324,36 +309,32 @@ module _ (limit : ℕ) where
         follows : LeavesDoubt old s doubt → (d : Doubt) → doubt ≡ Some d → MayFollowIn old d.entry
         follows (inl is) d h = S.doubt d (sym is ∙ h)
         follows (inr (unset, is)) d h =
-            (let f : record { entry = SetUp s; maker = None } ≡ d =
-            same_value doubt (record { entry = SetUp s; maker = None }) d is h in
-            subst (λ (x : Doubt). MayFollowIn old x.entry) f (setup-follows old s kept unset valid))
+            (subst (λ x. MayFollowIn old x.entry) (same_value doubt (record { entry = SetUp s; maker = None })
+            d is h) (setup-follows old s kept unset valid))
 
     inits-closed : (s : Setup) (r : Outcome) (new : State) → IsIdle old → old.is_open ≡ false →
         IsTrue (is_in_grammar (SetUp s)) → InitsClosed old s r new → IsSound limit new
     inits-closed s (Refused refusal.DiskFault) new idle closed valid (doubt, leaves, (faults, low, rose, is)) =
-        subst (IsSound limit) (sym is)
-        (shut (record old { doubt = doubt; disk_faults = faults }) idle
-        (left-kept s doubt faults valid leaves) closed)
+        (rw (← is) at (shut (record old { doubt = doubt; disk_faults = faults }) idle
+        (left-kept s doubt faults valid leaves) closed))
     inits-closed s (Refused refusal.Memory) new idle closed valid (doubt, leaves, is) =
-        subst (IsSound limit) (sym is)
-        (shut (record old { doubt = doubt }) idle (left-kept s doubt old.disk_faults valid leaves) closed)
+        (rw (← is) at (shut (record old { doubt = doubt }) idle (left-kept s doubt old.disk_faults valid
+        leaves) closed))
     inits-closed s (Refused refusal.Already) new idle closed valid (mid, h, up, (faults, low, is)) =
         (let t = settled old mid kept h in
-        subst (IsSound limit) (sym is)
-        (shut (record mid { disk_faults = faults }) (
+        (rw (← is) at (shut (record mid { disk_faults = faults }) (
           t.jobs ∙ idle.0,
           t.append ∙ idle.1,
           t.barred
               ∙ idle.2,
           t.alone ∙ idle.3,
-        ) (kept-devices mid faults t.kept) (t.is_open ∙ closed)))
+        ) (kept-devices mid faults t.kept) (t.is_open ∙ closed))))
     inits-closed s Ready new idle closed valid (mid, h, none, (faults, low, is)) =
         (let t = settled old mid kept h in
-        let w : State = record (brought mid (SetUp s)) { disk_faults = faults } in
-        subst (IsSound limit) (sym is)
-        (shut w (t.jobs ∙ idle.0, t.append ∙ idle.1, t.barred ∙ idle.2, t.alone ∙ idle.3)
+        let w = record (brought mid (SetUp s)) { disk_faults = faults } in
+        (rw (← is) at (shut w (t.jobs ∙ idle.0, t.append ∙ idle.1, t.barred ∙ idle.2, t.alone ∙ idle.3)
         (kept-brought mid w (SetUp s) refl refl refl refl refl t.doubt (not-switching mid t.kept none)
-        (setup-follows mid s t.kept none valid) t.kept) (t.is_open ∙ closed)))
+        (setup-follows mid s t.kept none valid) t.kept) (t.is_open ∙ closed))))
     inits-closed s r new idle closed valid h = absurd h
 
     inits-by : (s : Setup) (checked : Bool) (r : Outcome) (new : State) → is_setup s ≡ checked →

@@ -1,5 +1,5 @@
 -- The room that a job's records need, by its kind and the number of its appends that are left.
-use Rattle.state_laws.proofs.Words.{◌≡◌, ◌<◌, ◌==◌, cond, length, refl, ap, sym, subst, ◌∙◌, inl, inr, arith, cases_Bool, cases_lt, Sums, Setup, Record, PutStart, AuditStart, AuditDone, record_size, version_of, next_id, next_audit, Kind, PutJob, GetJob, DropJob, AuditJob, RepairJob, UpgradeJob, aim_of, Job, appends_left, HasSums, State, setup_in, room_left, reserved, Writes, done_record, is_first_append, cond_true, cond_false, first_above, first_below}
+use Rattle.state_laws.proofs.Words.{◌≡◌, ◌<◌, ◌==◌, cond, length, refl, ap, ◌∙◌, inl, inr, arith, cases_Bool, cases_lt, Sums, Setup, Record, PutStart, AuditStart, AuditDone, record_size, version_of, next_id, next_audit, Kind, PutJob, GetJob, DropJob, AuditJob, RepairJob, UpgradeJob, aim_of, Job, appends_left, HasSums, State, setup_in, room_left, reserved, Writes, done_record, is_first_append, cond_true, cond_false, first_above, first_below}
 use Rattle.std.proofs.Common.{ℕ, ◌+◌, ◌≤◌, List}
 use Rattle.state_laws.proofs.Orders.{put-first, put-later, audit-first, audit-later, drop-first, repair-first, upgrade-first}
 
@@ -54,45 +54,23 @@ pub room-step : (w : State) (job : Job) (kind : Kind) (entry : Record) (k : ℕ)
     room_of (version_of w.records) (setup_in w) kind (k + 1)
     ≡ (1 + record_size entry) + room_of (version_of w.records) (setup_in w) kind k
 room-step w job (PutJob name bytes) entry k kind h left sizes = elim (cases_lt job.place 4) [
-  | inl l ↦ (let one : k ≡ 1 =
-      (let e = put-first (setup_in w) job name bytes kind l in omega (arith, e, left)) in
-      subst (λ n. room_of (version_of w.records) (setup_in w) (PutJob name bytes) (n + 1)
-      ≡ (1 + record_size entry) + room_of (version_of w.records) (setup_in w) (PutJob name bytes) n)
-      (sym one)
-      (let e = ap record_size (put-writes_first w job name bytes entry l h) in omega (arith, e)))
-  | inr l ↦ (let none : k ≡ 0 =
-      (let e = put-later (setup_in w) job name bytes kind l in omega (arith, e, left)) in
-      subst (λ n. room_of (version_of w.records) (setup_in w) (PutJob name bytes) (n + 1)
-      ≡ (1 + record_size entry) + room_of (version_of w.records) (setup_in w) (PutJob name bytes) n)
-      (sym none)
-      (let e = ap record_size (put-writes_later w job name bytes entry l h) in
-      let f = size-done (version_of w.records) job.subject (length bytes) job.profile in
-      omega (arith, e, f)))
+  | inl l ↦ (let one : k ≡ 1 = omega (arith, put-first (setup_in w) job name bytes kind l) in
+      rw (one, put-writes_first w job name bytes entry l h) (omega arith))
+  | inr l ↦ (let none : k ≡ 0 = omega (arith, put-later (setup_in w) job name bytes kind l) in
+      rw (none, put-writes_later w job name bytes entry l h)
+      (omega (arith, size-done (version_of w.records) job.subject (length bytes) job.profile)))
 ]
 room-step w job (GetJob name) entry k kind h left sizes = absurd h
 room-step w job (DropJob name) entry k kind h left sizes =
-    (let none : k ≡ 0 = (let e = drop-first (setup_in w) job name kind in omega (arith, e, left)) in
-    subst (λ n. room_of (version_of w.records) (setup_in w) (DropJob name) (n + 1)
-    ≡ (1 + record_size entry) + room_of (version_of w.records) (setup_in w) (DropJob name) n) (sym none)
-    (let e = ap record_size h in omega (arith, e)))
+    (let none : k ≡ 0 = omega (arith, drop-first (setup_in w) job name kind) in rw (none, h) (omega arith))
 room-step w job AuditJob entry k kind h left sizes = elim (cases_lt job.place 4) [
-  | inl l ↦ (let one : k ≡ 1 = (let e = audit-first (setup_in w) job kind l in omega (arith, e, left)) in
-      subst (λ n. room_of (version_of w.records) (setup_in w) AuditJob (n + 1)
-      ≡ (1 + record_size entry) + room_of (version_of w.records) (setup_in w) AuditJob n) (sym one)
-      (let e = ap record_size (audit-writes_first w job entry l h) in omega (arith, e)))
-  | inr l ↦ (let none : k ≡ 0 = (let e = audit-later (setup_in w) job kind l in omega (arith, e, left)) in
-      subst (λ n. room_of (version_of w.records) (setup_in w) AuditJob (n + 1)
-      ≡ (1 + record_size entry) + room_of (version_of w.records) (setup_in w) AuditJob n) (sym none)
-      (let wrote = audit-writes_later w job entry l h in
-      let e = ap record_size wrote.2 in let f = sizes wrote.0 wrote.1 in omega (arith, e, f)))
+  | inl l ↦ (let one : k ≡ 1 = omega (arith, audit-first (setup_in w) job kind l) in
+      rw (one, audit-writes_first w job entry l h) (omega arith))
+  | inr l ↦ (let none : k ≡ 0 = omega (arith, audit-later (setup_in w) job kind l) in
+      let wrote = audit-writes_later w job entry l h in
+      rw (none, wrote.2) (omega (arith, sizes wrote.0 wrote.1)))
 ]
 room-step w job RepairJob entry k kind h left sizes =
-    (let none : k ≡ 0 = (let e = repair-first (setup_in w) job kind in omega (arith, e, left)) in
-    subst (λ n. room_of (version_of w.records) (setup_in w) RepairJob (n + 1)
-    ≡ (1 + record_size entry) + room_of (version_of w.records) (setup_in w) RepairJob n) (sym none)
-    (let e = ap record_size h in omega (arith, e)))
+    (let none : k ≡ 0 = omega (arith, repair-first (setup_in w) job kind) in rw (none, h) (omega arith))
 room-step w job UpgradeJob entry k kind h left sizes =
-    (let none : k ≡ 0 = (let e = upgrade-first (setup_in w) job kind in omega (arith, e, left)) in
-    subst (λ n. room_of (version_of w.records) (setup_in w) UpgradeJob (n + 1)
-    ≡ (1 + record_size entry) + room_of (version_of w.records) (setup_in w) UpgradeJob n) (sym none)
-    (let e = ap record_size h in omega (arith, e)))
+    (let none : k ≡ 0 = omega (arith, upgrade-first (setup_in w) job kind) in rw (none, h) (omega arith))

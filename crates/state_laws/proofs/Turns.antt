@@ -1,5 +1,5 @@
 -- Sound states after an action that puts no record in effect and ends no job.
-use Rattle.state_laws.proofs.Words.{◌≡◌, ◌<◌, ◌==◌, Bool, true, false, cond, ◌||◌, ◌&&◌, length, Option, refl, ap, sym, subst, ◌∙◌, inl, inr, arith, is_some, IsTrue, cases_Bool, cases_lt, cases_eq, false≢true, some-not-none, nat_tests, Sums, Record, SetUp, PutStart, PutDone, Drop, AuditStart, AuditDone, RepairDone, PutDoneIn, Version, Resume, InEffect, RepairDue, version_of, next_id, next_audit, file_of, started_as, refused, put_done_refused, AreAccepted, Kind, PutJob, GetJob, DropJob, AuditJob, RepairJob, UpgradeJob, aim_of, Given, Job, job_of, with_job, Action, End, ends_append, appends_left, actions_left, HasSums, State, Append, Doubt, setup_in, journal_end, going_on, reserved, puts_name, is_check, is_upgrade, Writes, done_record, is_first_append, subject_drawn, bytes_drawn, next_action, cond_true, cond_false, same_value, found_with, Series, objects, audits, Draws, first_above, first_below, moves_made, moves_before, moves_after, IsInOrder, BringsHeld, MayFollow, IsReady, IsSoundJob, IsDoubtOf, IsSoundAppend, IsPutUnderWay, starts_left, IsSound}
+use Rattle.state_laws.proofs.Words.{◌≡◌, ◌<◌, ◌==◌, Bool, true, false, cond, ◌||◌, ◌&&◌, length, Option, refl, ap, sym, subst, ◌∙◌, inl, inr, arith, is_some, IsTrue, cases_Bool, cases_lt, cases_eq, false≢true, some-not-none, Sums, Record, PutStart, PutDone, AuditStart, AuditDone, RepairDone, PutDoneIn, InEffect, version_of, next_id, next_audit, file_of, started_as, refused, put_done_refused, AreAccepted, Kind, PutJob, AuditJob, RepairJob, aim_of, Given, Job, job_of, with_job, Action, End, ends_append, appends_left, actions_left, HasSums, State, Append, Doubt, setup_in, journal_end, going_on, reserved, puts_name, is_check, is_upgrade, Writes, done_record, is_first_append, subject_drawn, bytes_drawn, next_action, cond_true, cond_false, same_value, found_with, Series, objects, audits, Draws, first_above, first_below, moves_made, moves_before, moves_after, IsInOrder, BringsHeld, MayFollow, IsReady, IsSoundJob, IsDoubtOf, IsSoundAppend, IsPutUnderWay, starts_left, IsSound}
 use Rattle.std.proofs.Common.{ℕ, ◌≤◌, List, [], ◌∷◌, Some, None}
 use Rattle.state_laws.proofs.Orders.{gates}
 use Rattle.state_laws.proofs.JobLists.{sum-with, length-with, numbered-with, still-with, only-with, not-mine, other}
@@ -31,12 +31,10 @@ follows-on rs journal end bytes now entry a stay m = record {
 }
   where
     held : (entry : Record) → refused rs entry ≡ None → BringsHeld bytes entry → BringsHeld now entry
-    held (PutDone id size) h b =
-        held-same bytes now id size (stay id (done-drawn rs id a (grind (arith, nat_tests, h)))) b
+    held (PutDone id size) h b = held-same bytes now id size (stay id (done-drawn rs id a (grind arith))) b
     held (PutDoneIn id size profile) h b =
-        held-same bytes now id size (stay id (done-drawn rs id a (grind (arith, nat_tests, h)))) b
-    held (InEffect id size profile name) h b =
-        held-same bytes now id size (stay id (grind (arith, nat_tests, h))) b
+        held-same bytes now id size (stay id (done-drawn rs id a (grind arith))) b
+    held (InEffect id size profile name) h b = held-same bytes now id size (stay id (grind arith)) b
     held entry h b = tt
 
 -- ---- lists of jobs in which one goes on
@@ -46,10 +44,9 @@ pub put-with : (n : List ℕ) (js : List Job) (job before : Job) → job_of js j
     job.kind ≡ before.kind → are_put n (with_job js job) ≡ are_put n js
 put-with n [] job before h kind = refl
 put-with n (x ∷ js) job before h kind = elim (cases_Bool (x.number == job.number)) [
-  | inl t ↦ (let same : x ≡ before = same_value _ x before
-      (cond_true (x.number == job.number) (Some x) (job_of js job.number) t) h in
-      ap (are_put n) (cond_true (x.number == job.number) (job ∷ js) (x ∷ with_job js job) t)
-      ∙ ap (λ k. puts_name n (aim_of k) || are_put n js) (kind ∙ ap (λ (z : Job). z.kind) (sym same)))
+  | inl t ↦ (ap (are_put n) (cond_true (x.number == job.number) (job ∷ js) (x ∷ with_job js job) t)
+      ∙ ap (λ k. puts_name n (aim_of k) || are_put n js) (kind ∙ ap (λ z. z.kind) (sym (same_value _ x before
+      (cond_true (x.number == job.number) (Some x) (job_of js job.number) t) h))))
   | inr f ↦ ap (are_put n) (cond_false (x.number == job.number) (job ∷ js) (x ∷ with_job js job) f)
       ∙ ap (λ b. puts_name n (aim_of x.kind) || b)
       (put-with n js job before (sym (cond_false (x.number == job.number) (Some x) (job_of js job.number) f)
@@ -114,14 +111,12 @@ drawn-again n m b c e = refl
 pub drawn-on : (w : State) (job : Job) (action : Action) (kind : Kind) → job.kind ≡ kind →
     next_action w job ≡ Some action → ends_append action ≡ false →
     subject_drawn w (onward job (subject_drawn w job kind) job.given) kind ≡ subject_drawn w job kind
-drawn-on w job action (PutJob name bytes) kind next plain =
-    drawn-again (next_id w.records) job.subject (is_first_append job)
-    (is_first_append (onward job (subject_drawn w job (PutJob name bytes)) job.given))
+drawn-on w job action (PutJob name bytes) kind next plain = drawn-again (next_id w.records) job.subject
+    (is_first_append job) (is_first_append (onward job (subject_drawn w job (PutJob name bytes)) job.given))
     (first-on objects w job (subject_drawn w job (PutJob name bytes)) job.given action
     (subst (Draws objects) (sym kind) tt) next plain)
-drawn-on w job action AuditJob kind next plain =
-    drawn-again (next_audit w.records) job.subject (is_first_append job)
-    (is_first_append (onward job (subject_drawn w job AuditJob) job.given))
+drawn-on w job action AuditJob kind next plain = drawn-again (next_audit w.records) job.subject
+    (is_first_append job) (is_first_append (onward job (subject_drawn w job AuditJob) job.given))
     (first-on audits w job (subject_drawn w job AuditJob) job.given action
     (subst (Draws audits) (sym kind) tt) next plain)
 drawn-on w job action h kind next plain = refl
@@ -171,25 +166,22 @@ module _ (limit : ℕ) (old : State) (S : IsSound limit old) (job : Job)
         spelled = S.spelled;
         journal = journal-same old (gone_on old next flight doubt now began) refl refl refl S.journal;
         room = (let a = sum-with (reserved (version_of old.records) (setup_in old)) old.jobs next job found in
-            let b = room-same (version_of old.records) (setup_in old) job next kind count in let c = S.room in
-            omega (arith, a, b, c));
+            omega (arith, a, room-same (version_of old.records) (setup_in old) job next kind count, S.room));
         files = held-on old.bytes now old.records S.accepted stay S.files;
-        names = (let a = taken-fewer old.records old.records old.jobs (with_job old.jobs next)
-            (λ n h. ap (λ b. b || is_some (file_of old.records n))
-            (sym (put-with n old.jobs next job found kind))
-            ∙ h) in let b = S.names in omega (arith, a, b));
-        ids = λ l. (let a = sum-with starts_left old.jobs next job found in
-            let b = starts-on job next kind place in let c = S.ids (omega (arith, l, a, b)) in
-            omega (arith, a, b, c));
+        names = (let a = taken-fewer old.records old.records old.jobs (with_job old.jobs next) (λ n h. ap (λ
+            b. b || is_some (file_of old.records n)) (sym (put-with n old.jobs next job found kind)) ∙ h) in
+            omega (arith, a, S.names));
+        ids = λ l. (let a = sum-with starts_left old.jobs next job found in let b = starts-on job next kind
+            place in omega (arith, a, b, S.ids (omega (arith, l, a, b))));
         audits = λ k j h is_audit l. elim (found_with old.jobs next k j h) [
           | inl p ↦ S.audits job.number job runs (sym kind ∙ (ap (λ (z : Job). z.kind) (sym p.1) ∙ is_audit))
-              (let e = ap (λ (z : Job). z.place) p.1 in omega (arith, l, e, place))
+              (omega (arith, l, ap (λ (z : Job). z.place) p.1, place))
           | inr q ↦ S.audits k j q.1 is_audit l
         ];
         closed = λ closed. absurd (found_some (S.closed closed).0);
         set_up = S.set_up;
         handed = S.handed;
-        few = (let a = length-with old.jobs next in let b = S.few in omega (arith, a, b));
+        few = omega (arith, length-with old.jobs next, S.few);
         numbered = numbered-with 0 old.jobs old.next_job next S.numbered;
         jobs = λ k j h. elim (found_with old.jobs next k j h) [
           | inl p ↦ subst (λ (z : Job). IsSoundJob (setup_in old) old.records now (moves_made flight k) z)
@@ -201,8 +193,7 @@ module _ (limit : ℕ) (old : State) (S : IsSound limit old) (job : Job)
         in_journal = λ k j h. elim (found_with old.jobs next k j h) [
           | inl p ↦ subst (λ (z : Job). IsReady (setup_in old) old.journal now z z.kind) (sym p.1) own_ready
           | inr q ↦ kept-ready (setup_in old) old.journal old.bytes now
-              (λ id l. stay id (let e = S.journal.alike.id in omega (arith, l, e))) j j.kind
-              (S.in_journal k j q.1)
+              (λ id l. stay id (omega (arith, l, S.journal.alike.id))) j j.kind (S.in_journal k j q.1)
         ];
         lone = λ x e. absurd (found_some (S.lone x e));
         packing = S.packing;
@@ -274,15 +265,14 @@ module _ (limit : ℕ) (old : State) (S : IsSound limit old) (job : Job)
       (action ≡ End → ⊥) → ends_append action ≡ false →
       appends_left (setup_in old) (onward job job.subject given) ≡ appends_left (setup_in old) job
   count-now action given next n plain =
-      (let a = count-onward old job given action next n in let b : gates action ≡ 0 =
-      cond_false (ends_append action) 1 0 plain in omega (arith, a, b))
+      (let b : gates action ≡ 0 = cond_false (ends_append action) 1 0 plain in
+      omega (arith, count-onward old job given action next n))
 
   -- an action between appends
   pub plain-sound : (action : Action) (given : List Given) → next_action old job ≡ Some action →
       (action ≡ End → ⊥) → ends_append action ≡ false → moves_before action ≡ 0 → moves_after action ≡ 0 →
       IsSound limit (gone_on old (onward job job.subject given) old.append old.doubt old.bytes old.audits)
-  plain-sound action given next n plain before after =
-      (let o = order-now action given next n in
+  plain-sound action given next n plain before after = (let o = order-now action given next n in
       let count = count-now action given next n plain in
       let none : moves_made old.append job.number ≡ 0 = o.0 ∙ before in
       going-sound (onward job job.subject given) old.append old.doubt old.bytes old.audits refl refl

@@ -1,5 +1,5 @@
 -- The record that a job writes with its next action may come into effect next.
-use Rattle.state_laws.proofs.Words.{◌≡◌, ◌-◌, ◌<◌, ◌==◌, Bool, true, false, ◌++◌, length, drop, Option, refl, ap, sym, subst, ◌∙◌, inl, inr, arith, is_some, IsTrue, nat_lt, slice_get, list_all, cases_Bool, cases_lt, false≢true, and_from, eq-eqb, eqb-true, ne_eqb, lt-ltb, nat_tests, Each, Sums, Setup, Record, SetUp, PutStart, PutDone, Drop, AuditStart, AuditDone, RepairDone, PutDoneIn, Version, is_name, is_in_grammar, record_size, largest_file, largest_journal, most_files, all_profiles, File, setup_of, version_of, profile_in, next_id, next_audit, started_as, file_of, files_of, is_same_name, running_audit, due_of, refused, put_done_refused, is_crowded, AreAlike, same-eq, same-refl, next_id-fits, next_audit-fits, Kind, PutJob, GetJob, DropJob, AuditJob, RepairJob, UpgradeJob, aim_of, Job, job_of, setup_or_none, WriteBody, End, append_actions, actions_of, appends_left, actions_left, HasSums, State, setup_in, file_in, journal_end, reserved, puts_name, sight_of, is_name_among, names_in, names_taken, AreBytes, IsSpelledKind, any_job, next_by, next_is_by, first_below, first_above, by_version, Writes, done_record, next_action, is_idle_drop, cond_true, cond_false, found_none, moves_made, IsInOrder, IsHeld, BringsHeld, MayFollowIn, IsWish, IsReady, IsSoundJob, HasDrawn, starts_left, IsSound, refused_after}
+use Rattle.state_laws.proofs.Words.{◌≡◌, ◌-◌, ◌<◌, ◌==◌, Bool, true, false, ◌++◌, length, drop, Option, refl, ap, sym, subst, ◌∙◌, inl, inr, arith, is_some, IsTrue, nat_lt, slice_get, list_all, cases_Bool, cases_lt, false≢true, and_from, eq-eqb, eqb-true, ne_eqb, lt-ltb, nat_tests, Each, Sums, Setup, Record, SetUp, PutStart, PutDone, Drop, AuditStart, AuditDone, RepairDone, PutDoneIn, Version, is_name, is_in_grammar, record_size, largest_file, largest_journal, most_files, all_profiles, File, setup_of, version_of, profile_in, next_id, next_audit, started_as, file_of, files_of, is_same_name, running_audit, due_of, refused, put_done_refused, is_crowded, AreAlike, same-eq, same-refl, next_id-fits, next_audit-fits, Kind, PutJob, GetJob, DropJob, AuditJob, RepairJob, UpgradeJob, aim_of, Job, job_of, setup_or_none, WriteBody, End, append_actions, actions_of, appends_left, HasSums, State, setup_in, file_in, journal_end, reserved, puts_name, sight_of, is_name_among, names_in, names_taken, AreBytes, IsSpelledKind, any_job, next_by, next_is_by, first_below, first_above, by_version, Writes, done_record, next_action, is_idle_drop, cond_true, cond_false, found_none, moves_made, IsInOrder, IsHeld, BringsHeld, MayFollowIn, IsWish, IsReady, IsSoundJob, HasDrawn, starts_left, IsSound, refused_after}
 use Rattle.std.proofs.Common.{ℕ, ◌+◌, ◌≤◌, ◌^◌, not, List, [], ◌∷◌, Some, None}
 use Rattle.state_laws.proofs.Orders.{in_order-step, next-left, appends-cons, appends_in, appends-order, drop_rest, drop-body}
 use Rattle.state_laws.proofs.JobLists.{sum-member}
@@ -22,7 +22,7 @@ accept-done rs version id size profile name up is started room = elim (cases_Boo
   | inl t ↦ ap (refused rs) (cond_true (version == 2) (PutDoneIn id size profile) (PutDone id size) t)
       ∙ (cond_true (is_some (setup_of rs)) _ _ up
       ∙ (cond_false (version_of rs == 1) _ _
-      (ne_eqb (version_of rs) 1 (λ e. (let two = eqb-true version 2 t in omega (arith, e, is, two))))
+      (ne_eqb (version_of rs) 1 (λ e. (omega (arith, e, is, eqb-true version 2 t))))
       ∙ done))
   | inr f ↦ ap (refused rs) (cond_false (version == 2) (PutDoneIn id size profile) (PutDone id size) f)
       ∙ (cond_true (is_some (setup_of rs)) _ _ up
@@ -77,13 +77,12 @@ spelled-counts : (counts : List ℕ) → Each (λ count. count ≤ 2 ^ 16) count
     list_all (λ count. nat_lt count (2 ^ 32)) counts ≡ true
 spelled-counts [] h = refl
 spelled-counts (c ∷ cs) h = and_from (nat_lt c (2 ^ 32)) (list_all (λ count. nat_lt count (2 ^ 32)) cs)
-    (lt-ltb c (2 ^ 32) (let a = h.0 in omega (arith, a))) (spelled-counts cs h.1)
+    (lt-ltb c (2 ^ 32) (omega (arith, h.0))) (spelled-counts cs h.1)
 
 spelled-audit_done : (number undecided : ℕ) (counts : List ℕ) → number < 2 ^ 64 → undecided ≤ 2 ^ 16 →
     4 ≤ length counts → length counts ≤ 16 → Each (λ count. count ≤ 2 ^ 16) counts →
     IsTrue (is_in_grammar (AuditDone number undecided counts))
-spelled-audit_done number undecided counts a b c d e =
-    grind (arith, nat_tests, a, b, c, d, spelled-counts counts e)
+spelled-audit_done number undecided counts a b c d e = grind (arith, spelled-counts counts e)
 
 up-in : (o : Option Setup) → is_some o ≡ true → o ≡ Some (setup_or_none o)
 up-in None h = absurd (false≢true h)
@@ -107,7 +106,7 @@ pub starts-on : (job next : Job) → next.kind ≡ job.kind → job.place ≤ ne
     starts_left next ≤ starts_left job
 starts-on job next kind place = elim (cases_lt next.place 4) [
   | inl l ↦ (let e : starts_left next ≡ starts_left job = same l in omega (arith, e))
-  | inr l ↦ (let z = starts-later next l in omega (arith, z))
+  | inr l ↦ omega (arith, starts-later next l)
 ]
   where
     same : next.place < 4 → starts_left next ≡ starts_left job
@@ -188,17 +187,12 @@ module _ (limit : ℕ) (w : State) (S : IsSound limit w) where
 
     -- before the first move of an append it is left
     pub body-left : next_action w job ≡ Some WriteBody → 0 < appends_left (setup_in w) job
-    body-left next =
-        (let rest = drop (job.place + 1) (actions_of (setup_in w) job) in
-        let left : actions_left (setup_in w) job ≡ WriteBody ∷ rest =
+    body-left next = (let rest = drop (job.place + 1) (actions_of (setup_in w) job) in
+        let left =
         next-left w job WriteBody next (λ e. cc) in
-        let o : IsInOrder (moves_made w.append number) (WriteBody ∷ rest) =
-        subst (IsInOrder (moves_made w.append number)) left J.order in
-        let r = in_order-step (moves_made w.append number) WriteBody rest (λ e. cc) o in
-        let c = appends-order 1 rest (omega arith) r.1 in
-        let d : appends_in (WriteBody ∷ rest) ≡ 0 + appends_in rest = appends-cons WriteBody rest in
-        let e : appends_left (setup_in w) job ≡ appends_in (WriteBody ∷ rest) = ap appends_in left in
-        omega (arith, c, d, e))
+        let r = in_order-step (moves_made w.append number) WriteBody rest (λ e. cc)
+        (subst (IsInOrder (moves_made w.append number)) left J.order) in
+        omega (arith, appends-order 1 rest (omega arith) r.1, appends-cons WriteBody rest, ap appends_in left))
 
     -- the sums of an audit that runs have a count for each provider
     pub sizes : (sums : Sums) → HasSums (setup_in w) job sums → length sums.counts ≡ (setup_in w).n
@@ -207,21 +201,18 @@ module _ (limit : ℕ) (w : State) (S : IsSound limit w) where
     -- the journal has room for the record
     written-room : (entry : Record) → 0 < appends_left (setup_in w) job → Writes w job job.kind entry →
         journal_end w + (1 + record_size entry) ≤ largest_journal
-    written-room entry left h =
-        (let k = appends_left (setup_in w) job - 1 in
-        let is : appends_left (setup_in w) job ≡ k + 1 = omega (arith, left) in
-        let step = room-step w job job.kind entry k refl h is sizes in
-        let mine : reserved (version_of w.records) (setup_in w) job
-        ≡ room_of (version_of w.records) (setup_in w) job.kind (k + 1) =
-        ap (room_of (version_of w.records) (setup_in w) job.kind) is in
-        let one = sum-member (reserved (version_of w.records) (setup_in w)) w.jobs number job runs in
-        let room = S.room in omega (arith, step, mine, one, room))
+    written-room entry left h = (let k = appends_left (setup_in w) job - 1 in let is : appends_left (setup_in
+        w) job ≡ k + 1 = omega (arith, left) in let mine : reserved (version_of w.records) (setup_in w) job ≡
+        room_of (version_of w.records) (setup_in w) job.kind (k + 1) = ap (room_of (version_of w.records)
+        (setup_in w) job.kind) is in let one = sum-member (reserved (version_of w.records) (setup_in w))
+        w.jobs number job runs in
+        omega (arith, room-step w job job.kind entry k refl h is sizes, one, S.room))
 
     -- a put's own name makes one more than the files, where it is not in effect
     put-place : (name bytes : List ℕ) → job.kind ≡ PutJob name bytes → is_crowded w.records name ≡ false
     put-place name bytes kind = elim (cases_Bool (is_some (file_of w.records name))) [
       | inl t ↦ crowded-named w.records name t
-      | inr f ↦ crowded-short w.records name (let a = S.names in let b = places f in omega (arith, a, b))
+      | inr f ↦ crowded-short w.records name (omega (arith, S.names, places f))
     ]
       where
         put : are_put name w.jobs ≡ true
@@ -244,7 +235,7 @@ module _ (limit : ℕ) (w : State) (S : IsSound limit w) where
             length (files_of w.records) + 1 ≤ length (names_taken (sight_of w))
         places f = (let l = fewer (name ∷ names_in (files_of w.records)) (taken_by w.records w.jobs)
             (listed-files_of w.records name ∙ f, once-files w.records) all-taken in
-            let e = length-names_in (files_of w.records) in omega (arith, l, e))
+            omega (arith, l, length-names_in (files_of w.records)))
 
     -- a drop's name is in effect where its first move is next
     drop-place : (name : List ℕ) → job.kind ≡ DropJob name → next_action w job ≡ Some WriteBody →
@@ -257,9 +248,8 @@ module _ (limit : ℕ) (w : State) (S : IsSound limit w) where
 
         listed : slice_get (append_actions ++ drop_rest (setup_in w) job) job.place ≡ Some WriteBody
         listed = elim (cases_Bool (is_idle_drop w job (DropJob name))) [
-          | inl t ↦ absurd (let e : Some End ≡ Some WriteBody =
-              sym (cond_true (is_idle_drop w job (DropJob name)) (Some End)
-              (slice_get (append_actions ++ drop_rest (setup_in w) job) job.place) t) ∙ by in cc)
+          | inl t ↦ absurd (cc (sym (cond_true (is_idle_drop w job (DropJob name)) (Some End)
+              (slice_get (append_actions ++ drop_rest (setup_in w) job) job.place) t) ∙ by))
           | inr f ↦ sym (cond_false (is_idle_drop w job (DropJob name)) (Some End)
               (slice_get (append_actions ++ drop_rest (setup_in w) job) job.place) f) ∙ by
         ]
@@ -270,24 +260,20 @@ module _ (limit : ℕ) (w : State) (S : IsSound limit w) where
 
         at_start : (there : Bool) → is_some (file_of w.records name) ≡ there → job.place ≡ 0 → there ≡ true
         at_start true is first = refl
-        at_start false is first =
-            absurd (let idle : is_idle_drop w job (DropJob name) ≡ true =
-            and_from (job.place == 0) (not (is_some (file_of w.records name))) (eq-eqb job.place 0 first)
-            (ap not is) in
-            let e : Some End ≡ Some WriteBody =
-            sym (cond_true (is_idle_drop w job (DropJob name)) (Some End)
-            (slice_get (append_actions ++ drop_rest (setup_in w) job) job.place) idle) ∙ by in cc)
+        at_start false is first = absurd (let e = sym (cond_true (is_idle_drop w job (DropJob name))
+            (Some End) (slice_get (append_actions ++ drop_rest (setup_in w) job) job.place)
+            (and_from (job.place == 0) (not (is_some (file_of w.records name))) (eq-eqb job.place 0 first)
+            (ap not is))) ∙ by in cc)
 
     -- a put that has still to start finds a number, and so does an audit
     number-left : (name bytes : List ℕ) → job.kind ≡ PutJob name bytes → job.place < 4 →
         next_id w.records < 2 ^ 64 - 1
-    number-left name bytes kind l =
-        (let one : starts_left job ≡ 1 = starts-first job name bytes kind l in
+    number-left name bytes kind l = (let one : starts_left job ≡ 1 = starts-first job name bytes kind l in
         let sum = sum-member starts_left w.jobs number job runs in
-        let ids = S.ids (omega (arith, one, sum)) in omega (arith, one, sum, ids))
+        omega (arith, sum, S.ids (omega (arith, one, sum))))
 
     audit-left : job.kind ≡ AuditJob → job.place < 4 → next_audit w.records < 2 ^ 64 - 1
-    audit-left kind l = (let a = S.audits number job runs kind l in omega (arith, a))
+    audit-left kind l = omega (arith, S.audits number job runs kind l)
 
     -- a record that all stands ready for
     ready-follows : {entry : Record} (r : Record) → refused_after w.records r ≡ None →
@@ -331,17 +317,15 @@ module _ (limit : ℕ) (w : State) (S : IsSound limit w) where
             IsHeld w.bytes job.subject (length bytes)
         held e kind = (subst AreBytes (sym e) (subst IsSpelledKind kind J.spelled).1, ap length e)
     follows-by (GetJob name) entry kind next left h = absurd h
-    follows-by (DropJob name) entry kind next left h =
-        subst Good (sym h) (
-          subst IsWish kind J.wish,
-          accept-drop w.records name (S.set_up opened) (drop-place name kind next),
-          accept-drop w.journal name up-too (ap is_some (file-alike w.journal w.records name L)
-              ∙ drop-place name kind next),
-          tt,
-        )
-    follows-by AuditJob entry kind next left h =
-        (let ready : IsReady (setup_in w) w.records w.bytes job AuditJob =
-        subst (IsReady (setup_in w) w.records w.bytes job) kind J.ready in
+    follows-by (DropJob name) entry kind next left h = subst Good (sym h) (
+      subst IsWish kind J.wish,
+      accept-drop w.records name (S.set_up opened) (drop-place name kind next),
+      accept-drop w.journal name up-too (ap is_some (file-alike w.journal w.records name L)
+          ∙ drop-place name kind next),
+      tt,
+    )
+    follows-by AuditJob entry kind next left h = (let ready : IsReady (setup_in w) w.records w.bytes job
+        AuditJob = subst (IsReady (setup_in w) w.records w.bytes job) kind J.ready in
         let ready_too : IsReady (setup_in w) w.journal w.bytes job AuditJob =
         subst (IsReady (setup_in w) w.journal w.bytes job) kind R in
         elim (cases_lt job.place 4) [
@@ -358,8 +342,7 @@ module _ (limit : ℕ) (w : State) (S : IsSound limit w) where
               let n = setup-providers opened in
               subst Good (sym wrote.2) (
                 spelled-audit_done job.subject sums.undecided sums.counts J.subject small.undecided
-                    (let e = small.size in omega (arith, e, n.0))
-                    (let e = small.size in omega (arith, e, n.1)) small.counts,
+                    (omega (arith, small.size, n.0)) (omega (arith, small.size, n.1)) small.counts,
                 accept-audit_done w.records (setup_in w) job.subject sums.undecided sums.counts
                     (set_up-in opened) (ready.1 l left) small.size,
                 accept-audit_done w.journal (setup_in w) job.subject sums.undecided sums.counts
@@ -367,8 +350,7 @@ module _ (limit : ℕ) (w : State) (S : IsSound limit w) where
                 tt,
               ))
         ])
-    follows-by RepairJob entry kind next left h =
-        ready-follows (RepairDone job.subject)
+    follows-by RepairJob entry kind next left h = ready-follows (RepairDone job.subject)
         (subst (IsReady (setup_in w) w.records w.bytes job) kind J.ready left)
         (subst (IsReady (setup_in w) w.journal w.bytes job) kind R left)
         (spelled-repair job.subject J.subject) tt h
@@ -379,8 +361,7 @@ module _ (limit : ℕ) (w : State) (S : IsSound limit w) where
     -- the record that the job writes with its next action may come into effect next
     pub written-follows : (entry : Record) → next_action w job ≡ Some WriteBody →
         Writes w job job.kind entry → MayFollowIn w entry
-    written-follows entry next h =
-        (let left = body-left next in
+    written-follows entry next h = (let left = body-left next in
         let f = follows-by job.kind entry refl next left h in
         record {
           spelled = f.0;
@@ -399,13 +380,11 @@ module _ (limit : ℕ) (w : State) (S : IsSound limit w) where
 
     -- while nothing is packed the next object number is at most the largest length of a journal
     pub ids-small : next_id w.records ≤ largest_journal
-    ids-small = (let a = next_id-le w.journal appended in let e = S.journal.alike.id in let b = S.room in
-        omega (arith, a, e, b))
+    ids-small = omega (arith, next_id-le w.journal appended, S.journal.alike.id, S.room)
 
     -- while nothing is packed the next audit number is at most the largest length of a journal
     pub audits-small : next_audit w.records ≤ largest_journal
-    audits-small = (let a = next_audit-le w.journal appended in let e = S.journal.alike.audit in
-        let b = S.room in omega (arith, a, e, b))
+    audits-small = omega (arith, next_audit-le w.journal appended, S.journal.alike.audit, S.room)
 
   -- ---- until the journal has its second version
 

@@ -1,6 +1,6 @@
 -- Instructions that are carried out behind the moments of a run.
 use Rattle.std.proofs.Common.{◌≡◌, ℕ, List, [], ◌∷◌, ◌++◌, length, refl, ap, sym, subst}
-use Rattle.made_runs.specs.Instructions.{Instruction, Turned, Turns, Swept, Sweeps, Fails, Begins, Reopens, Stops, Comes, moment, begun_by, done, FitsOne, run_of, AreFit}
+use Rattle.made_runs.specs.Instructions.{Instruction, Begins, Comes, begun_by, done, FitsOne, run_of, AreFit}
 use Rattle.made_runs.proofs.Instructions.{are-run}
 use Rattle.damage_run.specs.Words.{Begun, State, Moment, IsRun, now}
 
@@ -17,8 +17,7 @@ AreFitBehind start base (i ∷ is) = FitsOne 8 start (behind start base is) i ×
 -- the same as instructions alone, of which each begin knows how many moments were before it
 abbrev pub alone : State → List Moment → List Instruction → List Instruction
 alone start base [] = []
-alone start base (Begins event ∷ is) =
-    Comes event (Begun (now start (behind start base is)).next_job)
+alone start base (Begins event ∷ is) = Comes event (Begun (now start (behind start base is)).next_job)
     (λ w. begun_by w (length (behind start base is)) event) ∷ alone start base is
 alone start base (i ∷ is) = i ∷ alone start base is
 

@@ -1,8 +1,8 @@
 -- Gets beside puts of the same name.
-use Rattle.stories.proofs.Words.{◌≡◌, ◌⊎◌, ℕ, List, [], ◌∷◌, ◌++◌, Option, refl, ap, sym, subst, ◌∙◌, inl, inr, append_assoc, arith, reverse, reverse-reverse, run_back, GotRight, PutsOnly, Drops, CarriesApart, AsksPutsOnly, carried_apart, carried_end, ends_read, puts_only, none_for, one_call, gave_only, told_then, HoldsForgery, heard_in, file_object, CarriesOut, LeavesFree, NoneCalls, Seen, Ending, devices_of_seen, AreLeft, called_behind, IsOldOrNew, IsBeside, WentOn}
+use Rattle.stories.proofs.Words.{◌≡◌, ◌⊎◌, ℕ, List, [], ◌∷◌, ◌++◌, Option, refl, ap, sym, subst, ◌∙◌, inl, inr, append_assoc, arith, reverse, reverse-reverse, run_back, GotRight, PutsOnly, Drops, AsksPutsOnly, carried_apart, carried_end, ends_read, puts_only, none_for, one_call, gave_only, told_then, heard_in, CarriesOut, LeavesFree, NoneCalls, Seen, Ending, devices_of_seen, AreLeft, called_behind, IsOldOrNew, IsBeside, WentOn}
 use Rattle.machine_defs.specs.Heard.{NoneContinues}
 use Rattle.effect_laws.proofs.Since as since
-use Rattle.stories.specs.Words.{Moment, now, IsRun, State, Instruction}
+use Rattle.stories.specs.Words.{Moment, IsRun, State, Instruction}
 use Rattle.stories.specs.Files.{put_of}
 use Rattle.stories.proofs.Puts.{puts-file, called-free}
 
@@ -24,20 +24,10 @@ pub old-or-new : (start : State) (end : Ending) (g : ℕ) (name bytes other got 
     IsOldOrNew start at end g name bytes other got
 old-or-new start end g name bytes other got at all heard (inl (inl is)) = inl is
 old-or-new start end g name bytes other got at all heard (inr (inl is)) = inr (inl is)
-old-or-new start end g name bytes other got at all heard (inl (inr (file, stands, forged))) = inr (inr (
-  bytes,
-  inl refl,
-  file,
-  stands,
-  subst (HoldsForgery (file_object (now start at) file) bytes g) (sym heard) forged,
-))
-old-or-new start end g name bytes other got at all heard (inr (inr (file, stands, forged))) = inr (inr (
-  other,
-  inr refl,
-  file,
-  stands,
-  subst (HoldsForgery (file_object (now start at) file) other g) (sym heard) forged,
-))
+old-or-new start end g name bytes other got at all heard (inl (inr (file, stands, forged))) =
+    inr (inr (bytes, inl refl, file, stands, rw heard forged))
+old-or-new start end g name bytes other got at all heard (inr (inr (file, stands, forged))) =
+    inr (inr (other, inr refl, file, stands, rw heard forged))
 
 module _ (front behind : List Instruction) (name bytes other : List ℕ) (own : Option ℕ) (p : ℕ)
     (start : State) (ms : List Moment) (old new : Seen) (end : Ending) (leaves : LeavesFree name front)
@@ -47,13 +37,10 @@ module _ (front behind : List Instruction) (name bytes other : List ℕ) (own : 
 
   pub is-beside : WentOn start ms (reverse (behind ++ put_of front name bytes own p)) old new end →
       IsBeside front behind own start (called_behind start ms) old new end p name bytes other
-  is-beside W =
-      (let all = behind ++ put_of front name bytes own p in
-      let A : CarriesApart behind (put_of front name bytes own p) W.later W.lines =
-      carried_apart behind (put_of front name bytes own p) W.later W.lines
+  is-beside W = (let all = behind ++ put_of front name bytes own p in
+      let A = carried_apart behind (put_of front name bytes own p) W.later W.lines
       (subst (λ cs. CarriesOut cs W.later W.lines) (reverse-reverse all) W.carried_out) in
-      let split : W.later ++ called ≡ A.later ++ (A.older ++ called) =
-      ap (λ l. l ++ called) A.moments ∙ append_assoc A.later A.older called in
+      let split = ap (λ l. l ++ called) A.moments ∙ append_assoc A.later A.older called in
       let left = subst (λ l. AreLeft start l (devices_of_seen new)) split W.left in
       let E = carried_end behind A.later A.more A.owns in
       let reads = ends_read behind A.later E.0 E.1 in
@@ -69,9 +56,7 @@ module _ (front behind : List Instruction) (name bytes other : List ℕ) (own : 
         left = left;
         written = W.written ∙ ap (told_then old.sink) A.lines_are;
         right = λ begun ended g got after gaps ahead begin last is G.
-            (let seen : A.later ++ (A.older ++ called)
-            ≡ after ++ last ∷ (gaps ++ begin ∷ (ahead ++ (A.older ++ called))) =
-            ap (λ l. l ++ (A.older ++ called)) is
+            (let seen = ap (λ l. l ++ (A.older ++ called)) is
             ∙ (append_assoc after (last ∷ (gaps ++ begin ∷ ahead)) (A.older ++ called)
             ∙ ap (λ l. after ++ last ∷ l) (append_assoc gaps (begin ∷ ahead) (A.older ++ called))) in
             old-or-new start end g name bytes other got (ahead ++ (A.older ++ called))

@@ -1,10 +1,9 @@
 -- A replay that puts a file of one byte and gets it, over a store that was set up: its run is computed from
 -- the turns of the two jobs.
-use Rattle.stories.proofs.Words.{◌∙◌, ℕ, List, [], ◌∷◌, ◌++◌, Some, None, refl, inl, arith, lit≤, reverse, digits, carries, block_sized, symbols, own_work, byte_back, actions_of, Goes, Works, Came, Gives, put_begins, put-new, read, are-lines, CarriesOut, byte, named, own_block, lines, IsSchedule, devices_of_seen, AnswersReplay, Replays, AreLeft, sinking, RunJob, byte_text, byte_front, byte_lines, byte_commands, before_byte, behind_byte, byte_heard, byte_end}
+use Rattle.stories.proofs.Words.{◌and◌, ◌∙◌, ℕ, List, [], ◌∷◌, ◌++◌, Some, None, refl, arith, lit≤, reverse, digits, carries, block_sized, symbols, own_work, byte_back, actions_of, Goes, Works, Came, Gives, put_begins, put-new, read, are-lines, byte, named, own_block, lines, IsSchedule, devices_of_seen, AnswersReplay, Replays, AreLeft, sinking, RunJob, byte_text, byte_front, byte_lines, byte_commands, before_byte, behind_byte, byte_heard, byte_end}
 use Rattle.job_laws.proofs.BeginRefusals.{refusal-alone}
-use Rattle.damage_run.specs.Words.{PutJob, GetJob, Put, Got, Begin, Reopen, Opened, State, setup_in, Moment, IsRun, Instruction, Turns, Begins, Comes, run_of}
-use Rattle.command_runs.proofs.Stores.{four}
-use Rattle.stories.proofs.Behind.{AreFitBehind, behind, alone, behind-run}
+use Rattle.damage_run.specs.Words.{PutJob, GetJob, Put, Got, Begin, State, setup_in, Moment, Instruction, Turns, Begins}
+use Rattle.stories.proofs.Behind.{AreFitBehind}
 use Rattle.stories.proofs.Reopened as reopened
 use Rattle.stories.proofs.Replayed as replayed
 
@@ -39,13 +38,8 @@ module _ (start : State) (before : List Moment) where
 
   fits : AreFitBehind start first both
   unfolding setup_in actions_of
-  fits = (
-    (
-      omega arith,
-      (assumption (byte_back, own_work, block_sized 3, block_sized 2, block_sized 1, block_sized 0)),
-    ),
-    ((assumption), fit-put),
-  )
+  fits = (omega arith, assumption (byte_back, own_work, block_sized 3, block_sized 2, block_sized 1, block_sized 0))
+      and (assumption) and fit-put
 
 -- it goes so
 goes : (start : State) (before : List Moment) → AreLeft start before (devices_of_seen before_byte) →

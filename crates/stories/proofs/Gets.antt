@@ -1,5 +1,5 @@
 -- A get behind a put that a replay carried out.
-use Rattle.stories.proofs.Words.{◌≡◌, ◌⊎◌, ℕ, List, ◌∷◌, ◌++◌, Option, Some, ap, sym, subst, ◌∙◌, append_assoc, reverse, reverse-reverse, run_back, steps_begin_none, run-lines, put_is_got_later, told_then, File, Answer, Ended, HoldsForgery, heard_in, lines_of, file_in, file_object, CarriesOut, NoneAsksOn, LeavesFree, GetEnds, Seen, Ending, devices_of_seen, AreLeft, called_behind, got_behind, PutsFile, IsGot, WentOn}
+use Rattle.stories.proofs.Words.{◌≡◌, ◌⊎◌, ℕ, List, ◌∷◌, ◌++◌, Option, Some, ap, sym, subst, ◌∙◌, append_assoc, reverse, reverse-reverse, run_back, steps_begin_none, run-lines, put_is_got_later, told_then, File, Answer, Ended, HoldsForgery, heard_in, lines_of, file_in, file_object, CarriesOut, NoneAsksOn, LeavesFree, GetEnds, Seen, Ending, devices_of_seen, AreLeft, called_behind, got_behind, IsGot, WentOn}
 use Rattle.stories.specs.Words.{Got, Begin, Begun, GetJob, Moment, now, State, Instruction}
 use Rattle.stories.specs.Files.{put_of}
 use Rattle.stories.proofs.Puts.{puts-file, called-free}
@@ -14,22 +14,16 @@ module _ (front middle : List Instruction) (name bytes : List ℕ) (own : Option
       old new end) → (G : IsGot front middle own start (called_behind start ms) old new end p g name bytes)
       × (W.later ++ called_behind start ms
       ≡ G.last ∷ (G.gaps ++ G.begin ∷ (G.before ++ called_behind start ms)))
-  is-got W =
-      (let C : CarriesOut (got_behind (middle ++ put_of front name bytes own p) name g) W.later W.lines =
-      subst (λ cs. CarriesOut cs W.later W.lines)
+  is-got W = (let C = subst (λ cs. CarriesOut cs W.later W.lines)
       (reverse-reverse (got_behind (middle ++ put_of front name bytes own p) name g)) W.carried_out in
       let B = C.6 in
       let called : List Moment = called_behind start ms in
       let before : List Moment = B.1 ++ called in
-      let split : W.later ++ called ≡ C.0 ∷ (C.1 ++ B.0 ∷ before) =
-      ap (λ l. l ++ called) (C.4 ∙ ap (λ l. C.0 ∷ (C.1 ++ l)) B.3)
+      let split = ap (λ l. l ++ called) (C.4 ∙ ap (λ l. C.0 ∷ (C.1 ++ l)) B.3)
       ∙ ap (λ l. C.0 ∷ l) (append_assoc C.1 (B.0 ∷ B.1) called) in
-      let there : AreLeft start (C.0 ∷ (C.1 ++ B.0 ∷ before)) (devices_of_seen new) =
-      subst (λ l. AreLeft start l (devices_of_seen new)) split W.left in
-      let put : PutsFile front middle own B.1 called B.2 p name bytes =
-      puts-file front middle name bytes own p B.1 called B.2 B.5 asks leaves (called-free name start ms) start
-      there.starts
-      (run_back 8 start C.1 (B.0 ∷ before) there.run.2).2 in
+      let there = subst (λ l. AreLeft start l (devices_of_seen new)) split W.left in
+      let put = puts-file front middle name bytes own p B.1 called B.2 B.5 asks leaves (called-free name start ms) start
+      there.starts (run_back 8 start C.1 (B.0 ∷ before) there.run.2).2 in
       let text_is : new.sink ≡ told_then old.sink ((B.2 ++ lines_of B.0.outcome) ++ lines_of C.0.outcome) =
       W.written ∙ ap (told_then old.sink) (C.7 ∙ ap (λ l. l ++ lines_of C.0.outcome) B.6) in
       let ends : (how : Answer) → B.0.outcome ≡ Begun g → C.0.outcome ≡ Ended how →
@@ -52,10 +46,9 @@ module _ (front middle : List Instruction) (name bytes : List ℕ) (own : Option
           left = there;
           written = text_is;
           ends = ends;
-          right = λ got put_begun put_ended get_begun get_ended.
-              subst (λ h. (got ≡ bytes) ⊎ ((file : File) × (file_in (now start before) name ≡ Some file)
-              × HoldsForgery (file_object (now start before) file) bytes g h))
-              (sym (W.heard ∙ ap (heard_in start) split))
+          right = λ got put_begun put_ended get_begun get_ended. subst (λ h. (got ≡ bytes) ⊎
+              ((file : File) × (file_in (now start before) name ≡ Some file) × HoldsForgery
+              (file_object (now start before) file) bytes g h)) (sym (W.heard ∙ ap (heard_in start) split))
               (put_is_got_later 8 start before C.1 B.0 C.0 g name bytes got there.starts there.run
               (put.stored put_begun put_ended) (ends (Got got) get_begun get_ended));
           said = λ taken text how taken_is text_said says.

@@ -1,25 +1,16 @@
 -- Commands that keep a store up touch no name and damage nobody.
-use Rattle.stories.proofs.Words.{◌≡◌, ℕ, ◌+◌, List, [], ◌∷◌, ◌++◌, length, refl, ap, sym, subst, ◌∙◌, arith, append_assoc, length-append, Stop, IsBeginOn, AsksDamageOf, Once, RunJob, NoneAsksOn, IsUpkeep, AreSteps}
+use Rattle.stories.proofs.Words.{◌≡◌, ℕ, ◌+◌, List, [], ◌∷◌, ◌++◌, length, refl, ap, sym, ◌∙◌, arith, append_assoc, length-append, Stop, IsBeginOn, AsksDamageOf, Once, RunJob, NoneAsksOn, IsUpkeep, AreSteps}
 use Rattle.machine_defs.specs.Damaged.{IsAmong}
-use Rattle.machine_defs.specs.Events.{BeginScrub, BeginPack}
-use Rattle.machine_defs.specs.Jobs.{AuditJob, RepairJob}
-use Rattle.stories.specs.Words.{Event, Begin, Reopen, UpgradeJob, Instruction}
+use Rattle.machine_defs.specs.Jobs.{AuditJob}
+use Rattle.stories.specs.Words.{Event, Begin, Reopen, Instruction}
 
-pub upkeep-asks : (event : Event) (name : List ℕ) → IsUpkeep event → IsBeginOn name event → ⊥
+upkeep-asks : (event : Event) (name : List ℕ) → IsUpkeep event → IsBeginOn name event → ⊥
 upkeep-asks (Begin AuditJob) name keeps on = on
-upkeep-asks (Begin RepairJob) name keeps on = on
-upkeep-asks (Begin UpgradeJob) name keeps on = on
-upkeep-asks BeginScrub name keeps on = on
-upkeep-asks BeginPack name keeps on = on
-upkeep-asks event name keeps on = keeps
+upkeep-asks event name keeps on = assumption
 
-pub upkeep-among : (event : Event) (ps : List ℕ) → IsUpkeep event → IsAmong ps event
+upkeep-among : (event : Event) (ps : List ℕ) → IsUpkeep event → IsAmong ps event
 upkeep-among (Begin AuditJob) ps keeps = tt
-upkeep-among (Begin RepairJob) ps keeps = tt
-upkeep-among (Begin UpgradeJob) ps keeps = tt
-upkeep-among BeginScrub ps keeps = tt
-upkeep-among BeginPack ps keeps = tt
-upkeep-among event ps keeps = absurd keeps
+upkeep-among event ps keeps = search (tt, absurd)
 
 -- commands behind others, of which neither ask on a name
 pub both-asks : (name : List ℕ) (xs ys : List Instruction) → NoneAsksOn name xs → NoneAsksOn name ys →
@@ -36,41 +27,23 @@ both-names ps (Once event ∷ xs) ys a b = (a.0, both-names ps xs ys a.1 b)
 both-names ps (RunJob job ∷ xs) ys a b = both-names ps xs ys a b
 
 -- steps of a job do neither
-pub steps-ask : (name : List ℕ) (k : ℕ) (cut : List Instruction) → AreSteps k cut → NoneAsksOn name cut
-steps-ask name k [] steps = tt
-steps-ask name k (command ∷ cut) (is, steps) = subst (λ c. NoneAsksOn name (c ∷ cut)) (sym is)
-    ((λ on. on), steps-ask name k cut steps)
-
-pub steps-name : (ps : List ℕ) (k : ℕ) (cut : List Instruction) → AreSteps k cut → AsksDamageOf ps cut
-steps-name ps k [] steps = tt
-steps-name ps k (command ∷ cut) (is, steps) = subst (λ c. AsksDamageOf ps (c ∷ cut)) (sym is)
-    (tt, steps-name ps k cut steps)
+steps-keep : (name ps : List ℕ) (k : ℕ) (cut : List Instruction) → AreSteps k cut →
+    NoneAsksOn name cut × AsksDamageOf ps cut
+steps-keep name ps k [] steps = (tt, tt)
+steps-keep name ps k (command ∷ cut) (is, steps) =
+    (let S = steps-keep name ps k cut steps in rw is (((λ on. on), S.0), (tt, S.1)))
 
 -- a job that is stopped after some steps, and the reopening
 abbrev pub cut_by : Event → List ℕ → List Instruction → List Instruction
 cut_by event picks cut = Once Reopen ∷ Once (Stop picks) ∷ (cut ++ Once event ∷ [])
 
-pub cut-asks : (event : Event) (picks : List ℕ) (cut : List Instruction) (k : ℕ) (name : List ℕ) →
-    IsUpkeep event → AreSteps k cut → NoneAsksOn name (cut_by event picks cut)
-cut-asks event picks cut k name keeps steps = (
-  (λ on. on),
-  (
-    (λ on. on),
-    both-asks name cut (Once event ∷ []) (steps-ask name k cut steps)
-        (upkeep-asks event name keeps, tt),
-  ),
-)
-
-pub cut-names : (event : Event) (picks : List ℕ) (cut : List Instruction) (k : ℕ) (ps : List ℕ) →
-    IsUpkeep event → AreSteps k cut → AsksDamageOf ps (cut_by event picks cut)
-cut-names event picks cut k ps keeps steps = (
-  tt,
-  (
-    tt,
-    both-names ps cut (Once event ∷ []) (steps-name ps k cut steps)
-        (upkeep-among event ps keeps, tt),
-  ),
-)
+pub cut-keeps : (event : Event) (picks : List ℕ) (cut : List Instruction) (k : ℕ) (name ps : List ℕ) →
+    IsUpkeep event → AreSteps k cut →
+    NoneAsksOn name (cut_by event picks cut) × AsksDamageOf ps (cut_by event picks cut)
+cut-keeps event picks cut k name ps keeps steps = (let S = steps-keep name ps k cut steps in (
+  ((λ on. on), ((λ on. on), both-asks name cut (Once event ∷ []) S.0 (upkeep-asks event name keeps, tt))),
+  (tt, (tt, both-names ps cut (Once event ∷ []) S.1 (upkeep-among event ps keeps, tt))),
+))
 
 one-more : (xs : List Instruction) (x : Instruction) → length (xs ++ x ∷ []) ≡ length xs + 1
 one-more [] x = refl
@@ -92,8 +65,7 @@ three-apart a b c d x y z w = sym (append_assoc a (x ∷ y ∷ (b ++ z ∷ w ∷
 pub as-many : {A B : Type 0} → (a b c : List A) (x y z w : A) (k l m : List B) (q r s t : B) →
     length a ≡ length k → length b ≡ length l → length c ≡ length m →
     length (a ++ x ∷ y ∷ (b ++ z ∷ w ∷ c)) ≡ length (k ++ q ∷ r ∷ (l ++ s ∷ t ∷ m))
-as-many a b c x y z w k l m q r s t h i j =
-    (let e = length-append a (x ∷ y ∷ (b ++ z ∷ w ∷ c)) in
+as-many a b c x y z w k l m q r s t h i j = (let e = length-append a (x ∷ y ∷ (b ++ z ∷ w ∷ c)) in
     let f = length-append b (z ∷ w ∷ c) in
     let g = length-append k (q ∷ r ∷ (l ++ s ∷ t ∷ m)) in
     let o = length-append l (s ∷ t ∷ m) in omega arith)

@@ -56,42 +56,29 @@ list-stays start m ms told run event (files, is, same) = go (now start ms).is_op
     go false h = absurd h
 
 -- it tells what stands
-listed-last : (commands : List Instruction) (rest : List Outcome) (told : List File) (start : State)
-    (base older : List Moment) → IsRun 8 start (older ++ base) →
-    ReadsAs (Once Names ∷ commands) older (Listed told ∷ rest) → (name : List ℕ) →
-    IsListedAs (file_in (now start (older ++ base)) name) (find_file told name)
-listed-last commands rest told start base older run (m, before, is, event, read, more) name =
-    (let split = ap (λ l. l ++ base) is in
-    let all = subst (IsRun 8 start) split run in
-    subst (λ l. IsListedAs (file_in (now start l) name) (find_file told name)) (sym split)
-    (subst (λ (w : State). IsListedAs (file_in w name) (find_file told name))
-    (sym (list-stays start m (before ++ base) told all event read))
-    (lists 8 start m (before ++ base) told all event read name)))
-
 pub each : (commands : List Instruction) (outcomes : List Outcome) (told : List File) (start : State)
     (base ms : List Moment) (A : Apart commands outcomes told start base ms) (name : List ℕ) →
     IsListedAs (file_in (now start (A.older ++ base)) name) (find_file told name)
-each commands outcomes told start base ms A name =
-    (let C = but-cons A.own (Listed told) outcomes A.buts in
-    listed-last commands C.1 told start base A.older A.run
-    (subst (ReadsAs (Once Names ∷ commands) A.older) (C.2 ∙ ap (λ r. r ∷ C.1) C.3) A.reads) name)
+each commands outcomes told start base ms A name = (let C = but-cons A.own (Listed told) outcomes A.buts in
+    let reads = subst (ReadsAs (Once Names ∷ commands) A.older) (C.2 ∙ ap (λ r. r ∷ C.1) C.3) A.reads in
+    let m : Moment = reads.0 in
+    let before : List Moment = reads.1 ++ base in
+    let split = ap (λ l. l ++ base) reads.2 in
+    let all = subst (IsRun 8 start) split A.run in
+    subst (λ l. IsListedAs (file_in (now start l) name) (find_file told name)) (sym split)
+    (subst (λ (w : State). IsListedAs (file_in w name) (find_file told name))
+    (sym (list-stays start m before told all reads.3 reads.4))
+    (lists 8 start m before told all reads.3 reads.4 name)))
 
 -- of a file in effect there is one, and of none there is none
-one-listed : (o told : Option File) (file : File) (size : ℕ) → IsListedAs o told → o ≡ Some file →
-    file.size ≡ size → (found : File) × (told ≡ Some found) × (found.size ≡ size)
-one-listed o told file size is some sized = by told (subst (λ o. IsListedAs o told) some is)
-  where
-    by : (told : Option File) → IsListedAs (Some file) told →
-        (found : File) × (told ≡ Some found) × (found.size ≡ size)
-    by None h = absurd h
-    by (Some found) h = (found, refl, sym h ∙ sized)
+one-listed : (told : Option File) (file : File) (size : ℕ) → IsListedAs (Some file) told → file.size ≡ size →
+    (found : File) × (told ≡ Some found) × (found.size ≡ size)
+one-listed None file size is sized = absurd is
+one-listed (Some found) file size is sized = (found, refl, sym is ∙ sized)
 
-none-listed : (o told : Option File) → IsListedAs o told → o ≡ None → told ≡ None
-none-listed o told is none = by told (subst (λ o. IsListedAs o told) none is)
-  where
-    by : (told : Option File) → IsListedAs None told → told ≡ None
-    by None h = refl
-    by (Some found) h = absurd h
+none-listed : (told : Option File) → IsListedAs None told → told ≡ None
+none-listed None is = refl
+none-listed (Some found) is = absurd is
 
 module _ (front middle : List Instruction) (us ts : List Outcome) (told : List File) (name : List ℕ)
     (start : State) (ms whole : List Moment) where
@@ -100,33 +87,31 @@ module _ (front middle : List Instruction) (us ts : List Outcome) (told : List F
       Apart (middle ++ put_of front name bytes profile p) (ts ++ Ended Put ∷ Begun p ∷ us) told start
       (called_behind start ms) whole → length ts ≡ length middle → AreOverOn name front us →
       NoneAsksOn name middle → (file : File) × (find_file told name ≡ Some file) × (file.size ≡ length bytes)
-  put-listed bytes profile p A many leaves asks =
-      (let base : List Moment = called_behind start ms in
+  put-listed bytes profile p A many leaves asks = (let base : List Moment = called_behind start ms in
       let commands = middle ++ put_of front name bytes profile p in
       let P = job-told A.own (Listed told ∷ ts) us Put p tt A.buts in
       let S = stored-behind front (Once Names ∷ middle) name bytes profile p A.older base P.behind P.before
       (subst (ReadsAs (Once Names ∷ commands) A.older) P.is A.reads) (P.as_many ∙ ap suc many) ((λ on. on), asks)
       (over-but (Touches name) front P.before us [] P.rests leaves) (called-free name start ms) in
       let F = stored_is_kept 8 start (A.older ++ base) name bytes A.clean A.run S in
-      one-listed (file_in (now start (A.older ++ base)) name) (find_file told name) F.file (length bytes)
-      (each commands (ts ++ Ended Put ∷ Begun p ∷ us) told start base whole A name) F.kept.in_effect F.size)
+      one-listed (find_file told name) F.file (length bytes) (subst (λ o. IsListedAs o (find_file told name))
+      F.kept.in_effect (each commands (ts ++ Ended Put ∷ Begun p ∷ us) told start base whole A name)) F.size)
 
   -- one that was dropped, and that no put asked for since brings back
   pub drop-listed : (d : ℕ) → Apart (middle ++ done_by (Begin (DropJob name)) d front)
       (ts ++ Ended Dropped ∷ Begun d ∷ us) told start (called_behind start ms) whole → length ts ≡ length middle →
       AreOverOn name front us → NonePuts name middle → find_file told name ≡ None
-  drop-listed d A many leaves asks =
-      (let base : List Moment = called_behind start ms in
+  drop-listed d A many leaves asks = (let base : List Moment = called_behind start ms in
       let commands = middle ++ done_by (Begin (DropJob name)) d front in
       let P = job-told A.own (Listed told ∷ ts) us Dropped d tt A.buts in
       let T = tells (Once Names ∷ middle) [] front (Begin (DropJob name)) d Dropped A.older P.behind [] P.before
       (subst (ReadsAs (Once Names ∷ commands) A.older) P.is A.reads) (P.as_many ∙ ap suc many) refl tt in
-      none-listed (file_in (now start (A.older ++ base)) name) (find_file told name)
-      (each commands (ts ++ Ended Dropped ∷ Begun d ∷ us) told start base whole A name)
+      none-listed (find_file told name) (subst (λ o. IsListedAs o (find_file told name))
       (dropped_out 8 start (A.older ++ base) name (omega arith, omega arith) A.clean A.run
       (drops (Once Names ∷ middle) [] front d name A.older base P.behind P.before T ((λ on. on), asks) tt
       (over (Touches name) front T.older base P.before T.before
-      (over-but (Touches name) front P.before us [] P.rests leaves) (called-free name start ms)))))
+      (over-but (Touches name) front P.before us [] P.rests leaves) (called-free name start ms))))
+      (each commands (ts ++ Ended Dropped ∷ Begun d ∷ us) told start base whole A name)))
 
 -- one that nobody put
 pub unput-listed : (commands : List Instruction) (outcomes : List Outcome) (told : List File) (name : List ℕ)
@@ -134,9 +119,8 @@ pub unput-listed : (commands : List Instruction) (outcomes : List Outcome) (told
     NonePuts name commands → NoPutBegan name ms → find_file told name ≡ None
 unput-listed commands outcomes told name start ms whole A none before =
     (let base : List Moment = called_behind start ms in
-    none-listed (file_in (now start (A.older ++ base)) name) (find_file told name)
-    (each commands outcomes told start base whole A name)
+    none-listed (find_file told name) (subst (λ o. IsListedAs o (find_file told name))
     (none_put_none 8 start (A.older ++ base) name A.clean A.run
     (both_none (PutsUnder name) A.older base
     (none_for (PutsUnder name) (Once Names ∷ commands) A.older A.own A.reads ((λ on. on), none))
-    ((λ t n is. t), before))))
+    ((λ t n is. t), before))) (each commands outcomes told start base whole A name)))

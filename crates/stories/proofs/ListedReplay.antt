@@ -1,13 +1,12 @@
 -- The replay in which a put of other bytes is cut, and the names are listed: its run is computed from the turns of its
 -- jobs.
-use Rattle.stories.proofs.Words.{◌≡◌, ◌∙◌, ℕ, Bool, true, false, String, Global, List, [], ◌∷◌, ◌++◌, Some, None, refl, ap, sym, inl, inr, arith, lit≤, reverse, false≢true, digits, carries, Dropped, IsPutBegin, BeginAt, Listed, Names, Stop, DropJob, NonePuts, AsksPutsOnly, block_sized, symbols, own_work, byte_back, actions_of, Goes, Works, Notes, Came, Gives, byte-fit, fits, sure, AreFitIn, read, are-lines, CarriesOut, byte, named, own_block, lines, IsSchedule, devices_of_seen, AnswersReplay, IsReplayForm, AreLeft, Once, before_byte, before_text, first_state, other_byte, put_cut, third, second_file, dropped_behind, listed_text, listed_lines, listed_commands, listed_outcomes, listed_records, four_given, behind_listed, listed_end, IsToldReplay}
+use Rattle.stories.proofs.Words.{◌and◌, ◌≡◌, ◌∙◌, ℕ, Bool, true, false, String, Global, List, [], ◌∷◌, ◌++◌, refl, ap, sym, inl, inr, arith, lit≤, reverse, false≢true, digits, carries, Dropped, IsPutBegin, BeginAt, Listed, Names, Stop, DropJob, NonePuts, AsksPutsOnly, block_sized, own_work, byte_back, actions_of, Goes, Notes, Gives, byte-fit, fits, sure, AreFitIn, read, are-lines, named, lines, IsSchedule, AnswersReplay, IsReplayForm, Once, before_text, first_state, other_byte, put_cut, third, second_file, dropped_behind, listed_text, listed_lines, listed_commands, listed_outcomes, listed_records, four_given, behind_listed, listed_end, IsToldReplay}
 use Rattle.record_defs.specs.Records.{PutStart}
 use Rattle.machine_defs.specs.Events.{Event, Step}
-use Rattle.damage_run.specs.Words.{PutJob, GetJob, Put, Got, Begin, Reopen, Opened, State, setup_in, Moment, Instruction, Turned, Turns, Begins, Reopens, Stops, Comes, run_of}
+use Rattle.damage_run.specs.Words.{PutJob, Put, Begin, Reopen, State, setup_in, Moment, Instruction, Turned, Turns, Begins, Reopens, Stops, Comes}
 use Rattle.command_runs.specs.Words.{A}
-use Rattle.command_runs.proofs.Stores.{four}
 use Rattle.stories.specs.Replays.{second}
-use Rattle.stories.proofs.Behind.{AreFitBehind, alone, behind-run}
+use Rattle.stories.proofs.Behind.{AreFitBehind}
 use Rattle.stories.proofs.ByteReplay.{put, get_all, fit-put}
 use Rattle.stories.proofs.Reopened as reopened
 use Rattle.stories.proofs.Replayed as replayed
@@ -42,36 +41,22 @@ module _ (start : State) (before : List Moment) where
 
   fit-got : AreFitBehind start first got
   unfolding setup_in actions_of
-  fit-got = (
-    (
-      omega arith,
-      (assumption (byte_back, own_work, block_sized 3, block_sized 2, block_sized 1, block_sized 0)),
-    ),
-    ((assumption), fit-cut),
-  )
+  fit-got = (omega arith, assumption (byte_back, own_work, block_sized 3, block_sized 2, block_sized 1, block_sized 0))
+      and (assumption) and fit-cut
 
   fit-listed : AreFitBehind start first listed
   unfolding setup_in actions_of
-  fit-listed = (
-    (tt, (refl, refl)),
-    (
-      (omega arith, (assumption)),
-      ((assumption), ((omega arith, (assumption)), ((assumption), fit-got))),
-    ),
-  )
-
--- it goes so
-goes : (start : State) (before : List Moment) → AreLeft start before (devices_of_seen before_byte) →
-    replayed.Goes start before listed_commands listed_lines (four_given 3) behind_listed
-unfolding setup_in actions_of digits
-goes start before L = replayed.goes-so listed listed_commands listed_lines (four_given 3) behind_listed start before L
-    (fit-listed start before) (carries (reopened.found start before) (replayed.alone-of listed start before) refl) refl
-    ((sure behind_listed listed_records listed-fit refl (omega arith)).images) refl refl refl refl
+  fit-listed = (tt, (refl, refl)) and (omega arith, (assumption)) and (assumption) and (omega arith, (assumption))
+      and (assumption) and fit-got
 
 -- the replay
 listed-replayed : AnswersReplay (before_text listed_text) behind_listed listed_end
+unfolding setup_in actions_of digits
 listed-replayed = replayed.answers listed_text listed_lines (Once Names) dropped_behind (four_given 3) behind_listed refl
-    spelled (record { are_bytes = refl; front = refl; few = lit≤ tt; end = λ l. refl }) (lit≤ tt) goes
+    spelled (record { are_bytes = refl; front = refl; few = lit≤ tt; end = λ l. refl }) (lit≤ tt)
+    (λ start before L. replayed.goes-so listed _ _ _ _ start before L (fit-listed start before)
+    (carries (reopened.found start before) (replayed.alone-of listed start before) refl) refl
+    ((sure behind_listed listed_records listed-fit refl (omega arith)).images) refl refl refl refl)
 
 -- its text and what it wrote tell it
 pub told : (words : List (String Global)) → IsReplayForm words →
@@ -104,13 +89,8 @@ same_bytes bytes (inr (profile, is)) =
 
 -- each put of the name behind the first is of the other byte
 pub only-other : AsksPutsOnly named other_byte put_cut
-only-other = (
-  (λ q is. absurd (no_put Reopen named q refl is)),
-  (
-    (λ q is. absurd (no_put (Stop []) named q refl is)),
-    ((λ q is. absurd (no_put (Step 2) named q refl is)), ((λ q is. same_bytes q is), tt)),
-  ),
-)
+only-other = (λ q is. absurd (no_put Reopen named q refl is)) and (λ q is. absurd (no_put (Stop []) named q refl is))
+    and (λ q is. absurd (no_put (Step 2) named q refl is)) and same_bytes and tt
 
 -- the names are three
 first_apart : (x y : ℕ) → (x ≡ y → ⊥) → ◌≡◌ {A = List ℕ} (x ∷ []) (y ∷ []) → ⊥
@@ -127,28 +107,10 @@ not-named = first_apart 98 97 (λ is. omega (arith, is))
 
 -- nobody puts the third
 pub no-third : NonePuts third dropped_behind
-no-third = (
-  (λ on. on),
-  (
-    first_apart 98 99 (λ is. omega (arith, is)),
-    (
-      (λ on. on),
-      (
-        (λ on. on),
-        (
-          (λ on. on),
-          (
-            (λ on. on),
-            (
-              first_apart 97 99 (λ is. omega (arith, is)),
-              (
-                first_apart 97 99 (λ is. omega (arith, is)),
-                ((λ on. on), tt),
-              ),
-            ),
-          ),
-        ),
-      ),
-    ),
-  ),
-)
+no-third = (λ on. on) and b and (λ on. on) and (λ on. on) and (λ on. on) and (λ on. on) and a and a and (λ on. on) and tt
+  where
+    a : named ≡ third → ⊥
+    a = first_apart 97 99 (λ is. omega (arith, is))
+
+    b : second ≡ third → ⊥
+    b = first_apart 98 99 (λ is. omega (arith, is))

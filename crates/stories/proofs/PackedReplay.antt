@@ -1,10 +1,9 @@
 -- The replay in which the journal gets its second version and is packed: its run is computed from the turns of its jobs.
-use Rattle.stories.proofs.Words.{◌≡◌, ◌^◌, ℕ, List, [], ◌∷◌, ◌++◌, length, Some, None, refl, inl, ◌∙◌, arith, lit≤, length-append, reverse, digits, drop_at, carries, block_sized, symbols, own_work, byte_back, B, actions_of, Goes, Works, Came, Gives, Moves, Tells, read, are-lines, StandsActive, spelling, CarriesOut, byte, named, own_block, lines, IsSchedule, devices_of_seen, AnswersReplay, AreLeft, RunJob, IsFilling, before_byte, before_text, packed_front, packed_text, packed_lines, packed_commands, four_given, behind_packed, packed_end}
-use Rattle.damage_run.specs.Words.{GetJob, UpgradeJob, Got, Upgraded, Begin, BeginPack, Reopen, Opened, State, setup_in, Moment, Instruction, Turns, Sweeps, Begins, Comes, run_of}
+use Rattle.stories.proofs.Words.{◌and◌, ◌≡◌, ◌^◌, ℕ, List, [], ◌∷◌, ◌++◌, length, refl, ◌∙◌, arith, lit≤, length-append, reverse, digits, drop_at, carries, block_sized, own_work, byte_back, B, actions_of, Goes, Gives, Moves, Tells, read, are-lines, StandsActive, spelling, lines, IsSchedule, AnswersReplay, RunJob, IsFilling, before_text, packed_front, packed_text, packed_lines, packed_commands, four_given, behind_packed, packed_end}
+use Rattle.damage_run.specs.Words.{UpgradeJob, Upgraded, Begin, BeginPack, State, setup_in, Moment, Instruction, Turns, Sweeps, Begins}
 use Rattle.command_runs.specs.Packed.{packed_records, named_second, second_text, in_second}
 use Rattle.command_laws.proofs.SureStores.{stands}
-use Rattle.command_runs.proofs.Stores.{four}
-use Rattle.stories.proofs.Behind.{AreFitBehind, alone, behind-run}
+use Rattle.stories.proofs.Behind.{AreFitBehind}
 use Rattle.stories.proofs.ByteReplay.{put, get_all, fit-put}
 use Rattle.stories.proofs.Reopened as reopened
 use Rattle.stories.proofs.Replayed as replayed
@@ -39,34 +38,17 @@ got = get_all 4 packed
 -- it can go so
 fit-got : (start : State) (before : List Moment) → AreFitBehind start (reopened.first start before) got
 unfolding setup_in actions_of
-fit-got start before = (
-  (
-    omega arith,
-    (assumption (byte_back, own_work, block_sized 3, block_sized 2, block_sized 1, block_sized 0)),
-  ),
-  (
-    (assumption),
-    (
-      (omega arith, (assumption)),
-      ((assumption), ((omega arith, (assumption)), ((assumption), fit-put start before))),
-    ),
-  ),
-)
-
--- it goes so
-goes : (filling : List ℕ) → IsFilling filling → (start : State) (before : List Moment) →
-    AreLeft start before (devices_of_seen before_byte) →
-    replayed.Goes start before packed_commands packed_lines (four_given 4) (behind_packed filling)
-unfolding setup_in actions_of digits
-goes filling fills start before L = replayed.goes-so got packed_commands packed_lines (four_given 4)
-    (behind_packed filling) start before L (fit-got start before)
-    (carries (reopened.found start before) (replayed.alone-of got start before) refl) refl
-    (stands (in_second filling) (second-stands filling fills)) refl refl refl refl
+fit-got start before = (omega arith, assumption (byte_back, own_work, block_sized 3, block_sized 2, block_sized 1, block_sized 0))
+    and (assumption) and (omega arith, (assumption)) and (assumption) and (omega arith, (assumption)) and (assumption)
+    and fit-put start before
 
 -- the replay
 pub packed-replayed : (filling : List ℕ) → IsFilling filling →
     AnswersReplay (before_text packed_text) (behind_packed filling) packed_end
+unfolding setup_in actions_of digits
 packed-replayed filling fills = replayed.answers packed_text packed_lines (RunJob 4) packed_front (four_given 4)
     (behind_packed filling) refl spelled
     (record { are_bytes = refl; front = refl; few = lit≤ tt; end = λ l. refl }) (lit≤ tt)
-    (goes filling fills)
+    (λ start before L. replayed.goes-so got _ _ _ _ start before L (fit-got start before)
+    (carries (reopened.found start before) (replayed.alone-of got start before) refl) refl
+    (stands (in_second filling) (second-stands filling fills)) refl refl refl refl)

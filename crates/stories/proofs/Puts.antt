@@ -1,11 +1,11 @@
 -- A put behind commands, with commands behind it that begin no put and no drop of its name.
-use Rattle.stories.proofs.Words.{◌≡◌, ℕ, List, ◌∷◌, ◌++◌, Option, None, Some, ap, subst, ◌∙◌, inl, inr, append_assoc, arith, IsPutBegin, steps_begin_none, commands_begin_none, CarriesApart, carried_apart, carried_end, ends_read, free_behind, lines_of, CarriesOut, IsStart, NoneUnderWay, call_from, called_behind, IsFree, NoneAsksOn, LeavesFree, AsksForOneLine, PutsFile, SaysPut}
+use Rattle.stories.proofs.Words.{◌≡◌, ℕ, List, ◌∷◌, ◌++◌, Option, None, Some, ap, subst, ◌∙◌, inl, inr, append_assoc, arith, IsPutBegin, steps_begin_none, commands_begin_none, carried_apart, carried_end, ends_read, free_behind, lines_of, CarriesOut, IsStart, NoneUnderWay, call_from, called_behind, IsFree, NoneAsksOn, LeavesFree, AsksForOneLine, PutsFile, SaysPut}
 use Rattle.stories.specs.Words.{Event, put_event, Moment, IsRun, State, Instruction, now}
 use Rattle.stories.specs.Files.{put_of}
 use Rattle.stories.proofs.Said.{put-said}
 
 -- the begin of a put, with a profile of its own or without, is one, and writes one line
-begins-put : (own : Option ℕ) (event : Event) (name bytes : List ℕ) → event ≡ put_event own name bytes →
+pub begins-put : (own : Option ℕ) (event : Event) (name bytes : List ℕ) → event ≡ put_event own name bytes →
     IsPutBegin event name bytes
 begins-put None event name bytes is = inl is
 begins-put (Some profile) event name bytes is = inr (profile, is)
@@ -17,8 +17,7 @@ asks-one (Some profile) name bytes = tt
 -- a free name is so behind commands that leave it so
 pub carried-free : (name : List ℕ) (commands : List Instruction) (ms base : List Moment) (lines : List ℕ) →
     CarriesOut commands ms lines → LeavesFree name commands → IsFree name base → IsFree name (ms ++ base)
-carried-free name commands ms base lines C leaves free =
-    (let E = carried_end commands ms lines C in
+carried-free name commands ms base lines C leaves free = (let E = carried_end commands ms lines C in
     free_behind name commands ms base E.0 (ends_read commands ms E.0 E.1) leaves free)
 
 -- each name is free behind a later call of the program
@@ -32,18 +31,14 @@ pub puts-file : (front middle : List Instruction) (name bytes : List ℕ) (own :
     LeavesFree name front → IsFree name base → (start : State) → IsStart start →
     IsRun 8 start (ms ++ base) → PutsFile front middle own ms base lines p name bytes
 puts-file front middle name bytes own p ms base lines C asks leaves free start clean run =
-    (let S : CarriesApart middle (put_of front name bytes own p) ms lines =
-    carried_apart middle (put_of front name bytes own p) ms lines C in
+    (let S = carried_apart middle (put_of front name bytes own p) ms lines C in
     let P = S.rest in
     let Q = P.6 in
-    let moments : ms ≡ S.later ++ P.0 ∷ (P.1 ++ Q.0 ∷ Q.1) =
-    S.moments ∙ ap (λ l. S.later ++ l) (P.4 ∙ ap (λ l. P.0 ∷ (P.1 ++ l)) Q.3) in
-    let split : ms ++ base ≡ S.later ++ P.0 ∷ (P.1 ++ Q.0 ∷ (Q.1 ++ base)) =
-    ap (λ l. l ++ base) moments
+    let moments = S.moments ∙ ap (λ l. S.later ++ l) (P.4 ∙ ap (λ l. P.0 ∷ (P.1 ++ l)) Q.3) in
+    let split = ap (λ l. l ++ base) moments
     ∙ (append_assoc S.later (P.0 ∷ (P.1 ++ Q.0 ∷ Q.1)) base
     ∙ ap (λ l. S.later ++ P.0 ∷ l) (append_assoc P.1 (Q.0 ∷ Q.1) base)) in
-    let lines_are : lines ≡ ((Q.2 ++ lines_of Q.0.outcome) ++ lines_of P.0.outcome) ++ S.more =
-    S.lines_are ∙ ap (λ l. l ++ S.more) (P.7 ∙ ap (λ l. l ++ lines_of P.0.outcome) Q.6) in
+    let lines_are = S.lines_are ∙ ap (λ l. l ++ S.more) (P.7 ∙ ap (λ l. l ++ lines_of P.0.outcome) Q.6) in
     record {
       later = S.later;
       end = P.0;

@@ -69,34 +69,33 @@ module _ (text lines : List ℕ) (command : Command) (commands : List Command) (
   pub replayed : (start : State) (before : List Moment) → AreLeft start before (devices_of_seen before_byte) →
       Goes start before (command ∷ commands) lines heard new → Replays start before (reverse (command ∷ commands)) 0
       (sinking (before_text text) new) heard (devices_of_seen new)
-  replayed start before L G =
-      (let N = newest-apart command commands G.later lines G.carried in record {
-        done = command ∷ commands;
-        left = [];
-        order = sym (append-nil (reverse (command ∷ commands)));
-        whole = λ ok. refl;
-        later = G.later;
-        lines = lines;
-        carries = record {
-          carried_out = G.carried;
-          run = G.run;
-          last = G.last;
-          heard_is = G.heard_is;
-          counted = λ count n fails. failures_rose 8 start G.later (called_behind start before) count n G.run fails;
-          headline = headline 8 start (G.later ++ called_behind start before) L.starts G.run;
-        };
-        wrote = inl (refl, sunk);
-        stops = record {
-          newest = N.0;
-          older = N.1;
-          before = N.2;
-          more = N.3;
-          moments = N.4;
-          others = N.5;
-          lines_are = N.6;
-          cut = inl (refl, sunk ∙ ap Some N.6);
-        };
-      })
+  replayed start before L G = (let N = newest-apart command commands G.later lines G.carried in record {
+    done = command ∷ commands;
+    left = [];
+    order = sym (append-nil (reverse (command ∷ commands)));
+    whole = λ ok. refl;
+    later = G.later;
+    lines = lines;
+    carries = record {
+      carried_out = G.carried;
+      run = G.run;
+      last = G.last;
+      heard_is = G.heard_is;
+      counted = λ count n fails. failures_rose 8 start G.later (called_behind start before) count n G.run fails;
+      headline = headline 8 start (G.later ++ called_behind start before) L.starts G.run;
+    };
+    wrote = inl (refl, sunk);
+    stops = record {
+      newest = N.0;
+      older = N.1;
+      before = N.2;
+      more = N.3;
+      moments = N.4;
+      others = N.5;
+      lines_are = N.6;
+      cut = inl (refl, sunk ∙ ap Some N.6);
+    };
+  })
 
   -- the replay
   pub answers : IsSchedule text (reverse (command ∷ commands)) →

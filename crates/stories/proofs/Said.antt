@@ -3,31 +3,30 @@ use Rattle.stories.proofs.Words.{◌≡◌, ℕ, ◌<◌, ◌^◌, List, ◌∷�
 use Rattle.line_laws.proofs.Happened.{happened}
 use Rattle.line_laws.proofs.LastLines.{last-told}
 use Rattle.line_laws.proofs.Read.{written-lines, text-behind}
-use Rattle.stories.specs.Words.{Put, Event, Step, Begun, Moment, now, IsRun, State, Instruction}
+use Rattle.stories.specs.Words.{Put, Event, Step, Begun, Moment, now, IsRun, Outcome, State, Instruction}
 
 -- what was written behind what a sink had taken
 pub written-as : (old new : Option (List ℕ)) (lines taken text : List ℕ) → new ≡ told_then old lines →
     old ≡ Some taken → new ≡ Some (taken ++ text) → lines ≡ text
 written-as old new lines taken text written is same =
-    (let e : Some (taken ++ lines) ≡ Some (taken ++ text) =
-    ap (λ (o : Option (List ℕ)). told_then o lines) (sym is) ∙ (sym written ∙ same) in
+    (let e : told_then old lines ≡ Some (taken ++ lines) = ap (λ (o : Option (List ℕ)). told_then o lines) is in
     append_cancel_left taken lines text cc)
 
--- three texts behind each other
-three-lines : (x y z : List ℕ) → IsOfLines x → IsOfLines y → IsOfLines z → IsOfLines ((x ++ y) ++ z)
-three-lines x y z a b c = joined (x ++ y) z (joined x y a b) c
+-- the lines of a job behind whole lines
+job-lines : (x : List ℕ) (begun ended : Outcome) → IsOfLines x →
+    IsOfLines ((x ++ lines_of begun) ++ lines_of ended)
+job-lines x begun ended whole = joined (x ++ lines_of begun) (lines_of ended)
+    (joined x (lines_of begun) whole (outcome-lines begun)) (outcome-lines ended)
 
 -- a text that says so is of whole lines
 says-lines : (text : List ℕ) (front : List Instruction) (p : ℕ) (middle : List Instruction) →
     SaysPut text front p middle → IsOfLines text
-says-lines text front p middle (inl S) = subst IsOfLines (sym S.text_is)
+says-lines text front p middle (inl S) = rw S.text_is
     (joined ((S.front ++ lines_of (Begun p)) ++ lines_of (Ended Put)) (lines_of_all S.outcomes)
-    (three-lines S.front (lines_of (Begun p)) (lines_of (Ended Put)) S.whole (outcome-lines (Begun p))
-    (outcome-lines (Ended Put))) (written-lines S.outcomes))
-says-lines text front p middle (inr S) = subst IsOfLines (sym S.text_is)
+    (job-lines S.front (Begun p) (Ended Put) S.whole) (written-lines S.outcomes))
+says-lines text front p middle (inr S) = rw S.text_is
     (joined ((lines_of_all S.outcomes ++ lines_of (Begun p)) ++ lines_of (Ended Put)) S.rest
-    (three-lines (lines_of_all S.outcomes) (lines_of (Begun p)) (lines_of (Ended Put))
-    (written-lines S.outcomes) (outcome-lines (Begun p)) (outcome-lines (Ended Put))) S.whole)
+    (job-lines (lines_of_all S.outcomes) (Begun p) (Ended Put) (written-lines S.outcomes)) S.whole)
 
 -- four texts, the first apart
 four-texts : (w x y z : List ℕ) → ((w ++ x) ++ y) ++ z ≡ w ++ (x ++ (y ++ z))
@@ -74,10 +73,8 @@ module _ (limit : ℕ) (start : State) where
       ((front ++ lines_of begin.outcome) ++ lines_of end.outcome)
       ((S.front ++ lines_of (Begun p)) ++ lines_of (Ended Put)) S.outcomes run S.one_each owns S.told
       S.as_many
-      (three-lines front (lines_of begin.outcome) (lines_of end.outcome) whole
-      (outcome-lines begin.outcome) (outcome-lines end.outcome))
-      (three-lines S.front (lines_of (Begun p)) (lines_of (Ended Put)) S.whole (outcome-lines (Begun p))
-      (outcome-lines (Ended Put))) S.text_is in
+      (job-lines front begin.outcome end.outcome whole) (job-lines S.front (Begun p) (Ended Put) S.whole)
+      S.text_is in
       let two = two-said begin end steps older event p Put front S.front
       (run_back limit start later (end ∷ (steps ++ begin ∷ older)) run) begun asks ended tt whole S.whole
       B.0 in
@@ -113,12 +110,10 @@ module _ (limit : ℕ) (start : State) where
       SaysPut (((before ++ lines_of begin.outcome) ++ lines_of end.outcome) ++ rest) front p middle →
       (begin.outcome ≡ Begun p) × (end.outcome ≡ Ended Put)
   put-said fits clean begin end later steps older base event p before rest front middle run begun asks ended
-      ahead owns (inl S) =
-      said-behind begin end later steps (older ++ base) event p before rest middle run begun asks ended
-      (run-lines front older before ahead) owns S
+      ahead owns (inl S) = said-behind begin end later steps (older ++ base) event p before rest middle run
+      begun asks ended (run-lines front older before ahead) owns S
   put-said fits clean begin end later steps older base event p before rest front middle run begun asks ended
-      ahead owns (inr S) =
-      said-before fits clean begin end steps older base event p before rest front
+      ahead owns (inr S) = said-before fits clean begin end steps older base event p before rest front
       (run_back limit start later (end ∷ (steps ++ begin ∷ (older ++ base))) run) begun asks ended ahead S
 
   -- a get behind lines

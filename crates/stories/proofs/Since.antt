@@ -1,17 +1,12 @@
 -- What a get gives behind a put and others of its name.
-use Rattle.stories.proofs.Words.{◌≡◌, ◌⊎◌, ℕ, List, [], ◌∷◌, ◌++◌, length, Option, None, Some, refl, ap, sym, subst, ◌∙◌, inl, inr, append_assoc, arith, IsPutBegin, Touches, GotRight, ReadsAs, PutsOnly, AreButBlocks, NoneIsBegun, AsksPutsOnly, AreOverOn, job_behind, ends_apart, puts_only, one_call, gave_only, tells, stores, over, GivesOrIsLost, Answer, Ended, IsLostByFaults, file_in, heard_in, GetEnds, IsStart, Once, RunJob, NoneAsksOn, NoneCalls, Stored, Seen, Ending, called_behind, IsOldOrNew, WasTold}
+use Rattle.stories.proofs.Words.{◌≡◌, ◌⊎◌, ℕ, List, [], ◌∷◌, ◌++◌, length, Option, Some, refl, ap, sym, subst, ◌∙◌, inl, inr, append_assoc, arith, Touches, GotRight, ReadsAs, PutsOnly, AreButBlocks, NoneIsBegun, AsksPutsOnly, AreOverOn, job_behind, ends_apart, puts_only, one_call, gave_only, tells, stores, over, GivesOrIsLost, Answer, Ended, IsLostByFaults, file_in, heard_in, GetEnds, IsStart, Once, RunJob, NoneAsksOn, NoneCalls, Stored, Seen, Ending, called_behind, IsOldOrNew, WasTold}
 use Rattle.machine_defs.specs.Events.{put_event}
 use Rattle.effect_laws.proofs.Since.{whose, put_only}
 use Rattle.stories.specs.Words.{Put, Got, Begin, Begun, GetJob, Moment, now, IsRun, Outcome, State, Instruction}
 use Rattle.stories.proofs.Among.{Among}
 use Rattle.stories.proofs.Beside.{old-or-new}
-use Rattle.stories.proofs.Puts.{called-free}
+use Rattle.stories.proofs.Puts.{begins-put, called-free}
 use Rattle.stories.proofs.Told.{get-told, begun-but, over-but}
-
--- the begin of a put, with a profile of its own or without, is one
-begins-put : (own : Option ℕ) (name bytes : List ℕ) → IsPutBegin (put_event own name bytes) name bytes
-begins-put None name bytes = inl refl
-begins-put (Some profile) name bytes = inr (profile, refl)
 
 -- behind moments that stored the bytes stand others whose puts of the name are of other bytes
 pub record Since (name bytes other : List ℕ) (base ms : List Moment) : Type 0 where
@@ -27,9 +22,8 @@ pub stored-since : (front beside middle : List Instruction) (us vs ts own_outcom
     ReadsAs (job_behind middle beside (put_event own name bytes) p front) older own_outcomes →
     length ts ≡ length middle → length vs ≡ length beside → NoneIsBegun p vs → AreOverOn name front us →
     NoneAsksOn name beside → AsksPutsOnly name other middle → Since name bytes other (called_behind start ms) older
-stored-since front beside middle us vs ts own_outcomes name bytes other own p start ms older but reads many some none
-    leaves asks only =
-    (let base : List Moment = called_behind start ms in
+stored-since front beside middle us vs ts own_outcomes name bytes other own p start ms older but reads many
+    some none leaves asks only = (let base : List Moment = called_behind start ms in
     let event = put_event own name bytes in
     let P = get-told own_outcomes ts vs us Put p tt but in
     let A = ends_apart middle (RunJob p ∷ (beside ++ Once event ∷ front)) older P.first
@@ -41,7 +35,7 @@ stored-since front beside middle us vs ts own_outcomes name bytes other own p st
       later = A.later;
       older = A.older;
       moments = ap (λ l. l ++ base) A.moments ∙ append_assoc A.later A.older base;
-      stored = stores [] beside front p name A.older base [] P.last event bytes (begins-put own name bytes) T tt asks
+      stored = stores [] beside front p name A.older base [] P.last event bytes (begins-put own event name bytes refl) T tt asks
           (over (Touches name) front T.older base P.last T.before
           (over-but (Touches name) front P.last us [] P.lasts leaves) (called-free name start ms));
       only = puts_only name other middle A.later P.first A.owns only;

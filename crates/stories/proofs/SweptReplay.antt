@@ -1,9 +1,8 @@
 -- The replay in which a scrub mends a lost block: its run is computed from the turns of its jobs.
-use Rattle.stories.proofs.Words.{◌≡◌, ◌<◌, ◌^◌, ℕ, List, [], ◌∷◌, ◌++◌, Some, None, refl, inl, arith, lit≤, reverse, digits, carries, block_sized, symbols, byte_back, Action, Store, End, actions_of, Lose, Works, Came, Gives, Brings, Opens, Mends, Finds, lose, without_two_give, without_zero_give, finds, put-new, read, are-lines, CarriesOut, byte, named, own_block, lines, IsSchedule, devices_of_seen, AnswersReplay, AreLeft, Once, RunJob, before_byte, before_text, lost0, put_lost, swept_text, swept_lines, swept_commands, symbols_off, blocks_off, behind_swept, swept_end, three_given, done_by}
+use Rattle.stories.proofs.Words.{◌and◌, ◌≡◌, ◌<◌, ◌^◌, ℕ, List, [], ◌∷◌, ◌++◌, Some, None, refl, arith, lit≤, reverse, digits, carries, block_sized, symbols, byte_back, Store, End, actions_of, Lose, Works, Came, Gives, Brings, Opens, Mends, Finds, lose, without_two_give, without_zero_give, finds, put-new, read, are-lines, byte, named, own_block, lines, IsSchedule, AnswersReplay, Once, RunJob, before_text, lost0, put_lost, swept_text, swept_lines, swept_commands, symbols_off, blocks_off, behind_swept, swept_end, three_given, done_by}
 use Rattle.code_defs.proofs.Codewords.{differences-same}
-use Rattle.damage_run.specs.Words.{GetJob, Got, Begin, BeginScrub, Reopen, Opened, Replaced, State, setup_in, Moment, Instruction, Turns, Sweeps, Begins, Comes, run_of}
-use Rattle.command_runs.proofs.Stores.{four}
-use Rattle.stories.proofs.Behind.{AreFitBehind, alone, behind-run}
+use Rattle.damage_run.specs.Words.{GetJob, Got, Begin, BeginScrub, Replaced, State, setup_in, Moment, Instruction, Turns, Sweeps, Begins, Comes}
+use Rattle.stories.proofs.Behind.{AreFitBehind}
 use Rattle.stories.proofs.ByteReplay.{put, fit-put}
 use Rattle.stories.proofs.Reopened as reopened
 use Rattle.stories.proofs.Replayed as replayed
@@ -42,48 +41,22 @@ module _ (start : State) (before : List Moment) where
   fit-swept : AreFitBehind start first swept
   unfolding setup_in actions_of
   fit-swept = (let f = finds (own_block 0) 0 (differences-same (own_block 0)) in (
-    (
-      omega arith,
-      (
-        (refl, (refl, (refl, f.1, f.2))),
-        (
-          (refl, (refl, tt)),
-          (
-            (refl, (refl, (without_two_give, f.0))),
-            (
-              (refl, (refl, block_sized 3)),
-              (
-                (refl, (refl, refl)),
-                ((refl, (refl, block_sized 1)), ((refl, (refl, block_sized 0)), tt)),
-              ),
-            ),
-          ),
-        ),
-      ),
-    ),
-    ((tt, refl, refl), fit-damaged),
-  ))
+    omega arith,
+    (refl, (refl, (refl, f.1, f.2))) and (refl, (refl, tt)) and (refl, (refl, (without_two_give, f.0)))
+        and (refl, (refl, block_sized 3)) and (refl, (refl, refl)) and (refl, (refl, block_sized 1))
+        and (refl, (refl, block_sized 0)) and tt,
+  ) and (tt, refl, refl) and fit-damaged)
 
   fits : AreFitBehind start first got
   unfolding setup_in actions_of
-  fits = (
-    (omega arith, (assumption (byte_back, without_zero_give, block_sized 3, block_sized 2, block_sized 1))),
-    (
-      (assumption),
-      ((omega arith, (_, ((λ x. refl, λ x. refl), refl), refl)), fit-swept),
-    ),
-  )
-
--- it goes so
-goes : (start : State) (before : List Moment) → AreLeft start before (devices_of_seen before_byte) →
-    replayed.Goes start before swept_commands swept_lines (three_given 3) behind_swept
-unfolding setup_in actions_of digits
-goes start before L = replayed.goes-so got swept_commands swept_lines (three_given 3) behind_swept start before L
-    (fits start before) (carries (reopened.found start before) (replayed.alone-of got start before) refl) refl
-    put-new.images refl refl refl refl
+  fits = (omega arith, assumption (byte_back, without_zero_give, block_sized 3, block_sized 2, block_sized 1))
+      and (assumption) and (omega arith, (_, ((λ x. refl, λ x. refl), refl), refl)) and fit-swept
 
 -- the replay
 pub swept-replayed : AnswersReplay (before_text swept_text) behind_swept swept_end
+unfolding setup_in actions_of digits
 swept-replayed = replayed.answers swept_text swept_lines (RunJob 3)
     (Once (Begin (GetJob named)) ∷ (lost0 ++ done_by BeginScrub 2 put_lost)) (three_given 3) behind_swept refl
-    spelled (record { are_bytes = refl; front = refl; few = lit≤ tt; end = λ l. refl }) (lit≤ tt) goes
+    spelled (record { are_bytes = refl; front = refl; few = lit≤ tt; end = λ l. refl }) (lit≤ tt)
+    (λ start before L. replayed.goes-so got _ _ _ _ start before L (fits start before)
+    (carries (reopened.found start before) (replayed.alone-of got start before) refl) refl put-new.images refl refl refl refl)

@@ -1,8 +1,9 @@
 -- A replay as its text and what it wrote tell it, with the blocks that its scrubs found.
-use Rattle.stories.proofs.Words.{◌≡◌, ◌⊎◌, ℕ, suc, List, [], ◌∷◌, ◌++◌, length, refl, ap, sym, subst, ◌∙◌, inl, inr, arith, append_assoc, reverse, Some, AllByRecursion, reverse-reverse, Scrubbed, Kind, IsToldButBlocks, IsButBlocks, AreButBlocks, AreOverFor, NoneIsBegun, done_by, GotBack, ByScrubs, put_is_got_later, File, Answer, Ended, HoldsForgery, heard_in, file_in, file_object, GetEnds, Once, RunJob, CarriesOut, NoneCalls, IsToldAnswer, lines_of_all, Seen, Ending, called_behind, WasTold, WentOn}
+use Rattle.stories.proofs.Words.{◌≡◌, ℕ, suc, List, [], ◌∷◌, ◌++◌, length, refl, ap, sym, subst, ◌∙◌, inl, inr, arith, append_assoc, reverse, Some, AllByRecursion, reverse-reverse, Scrubbed, Kind, IsToldButBlocks, IsButBlocks, AreButBlocks, AreOverFor, NoneIsBegun, done_by, GotBack, ByScrubs, put_is_got_later, Answer, Ended, heard_in, Once, RunJob, CarriesOut, NoneCalls, IsToldAnswer, lines_of_all, Seen, Ending, called_behind, WasTold, WentOn}
 use Rattle.machine_defs.specs.Events.{BeginScrub}
 use Rattle.effect_laws.proofs.Scrubs.{whole}
-use Rattle.stories.specs.Words.{Got, Outcome, Begun, Moment, now, IsRun, State, Instruction}
+use Rattle.stories.specs.Words.{Outcome, Begun, Moment, IsRun, State, Instruction}
+use Rattle.stories.specs.Told.{IsGotBack}
 use Rattle.stories.proofs.Said.{written-as}
 
 -- what a replay has done is what was written of it
@@ -62,47 +63,40 @@ pub record HasJob (own xs ys : List Outcome) (r : Outcome) (n : ℕ) : Type 0 wh
   pub as_many : length behind ≡ length xs
   pub rests : AreButBlocks before ys
 
-two-apart : (own ys : List Outcome) (s : Outcome) (n : ℕ) → AreButBlocks own (s ∷ Begun n ∷ ys) →
-    (r : Outcome) × (rest : List Outcome) × (own ≡ r ∷ Begun n ∷ rest) × IsButBlocks r s × AreButBlocks rest ys
-two-apart own ys s n h =
-    (let A = but-cons own s (Begun n ∷ ys) h in
-    let B = but-cons A.1 (Begun n) ys A.4 in
-    (A.0, B.1, A.2 ∙ ap (λ l. A.0 ∷ l) (B.2 ∙ ap (λ r. r ∷ B.1) B.3), A.3, B.4))
+told-apart : (own xs ys : List Outcome) (s : Outcome) (n : ℕ) → AreButBlocks own (xs ++ s ∷ Begun n ∷ ys) →
+    (r : Outcome) × HasJob own xs ys r n × IsButBlocks r s
+told-apart own xs ys s n h = (let A = but-apart own xs (s ∷ Begun n ∷ ys) h in
+    let B = but-cons A.rest s (Begun n ∷ ys) A.rests in
+    let C = but-cons B.1 (Begun n) ys B.4 in
+    let e : C.0 ≡ Begun n = C.3 in (
+      B.0,
+      record {
+        behind = A.first;
+        before = C.1;
+        is = cc (A.is, B.2, C.2);
+        as_many = A.as_many;
+        rests = C.4;
+      },
+      B.3,
+    ))
 
 -- that of a job ended as told
 pub job-told : (own xs ys : List Outcome) (how : Answer) (n : ℕ) → IsToldAnswer how →
     AreButBlocks own (xs ++ Ended how ∷ Begun n ∷ ys) → HasJob own xs ys (Ended how) n
-job-told own xs ys how n told h =
-    (let A = but-apart own xs (Ended how ∷ Begun n ∷ ys) h in
-    let T = two-apart A.rest ys (Ended how) n A.rests in record {
-      behind = A.first;
-      before = T.1;
-      is = A.is ∙ ap (λ l. A.first ++ l) (T.2 ∙ ap (λ r. r ∷ Begun n ∷ T.1) (but-told T.0 how told T.3));
-      as_many = A.as_many;
-      rests = T.4;
-    })
+job-told own xs ys how n told h = (let T = told-apart own xs ys (Ended how) n h in
+    subst (λ r. HasJob own xs ys r n) (but-told T.0 how told T.2) T.1)
 
 -- that of a scrub, with blocks of its own
 pub scrub-told : (own xs ys : List Outcome) (stripes : ℕ) (symbols blocks : List ℕ) (n : ℕ) →
     AreButBlocks own (xs ++ Ended (Scrubbed stripes symbols blocks) ∷ Begun n ∷ ys) →
     (found : List ℕ) × HasJob own xs ys (Ended (Scrubbed stripes symbols found)) n
 scrub-told own xs ys stripes symbols blocks n h =
-    (let A = but-apart own xs (Ended (Scrubbed stripes symbols blocks) ∷ Begun n ∷ ys) h in
-    let T = two-apart A.rest ys (Ended (Scrubbed stripes symbols blocks)) n A.rests in (
-      T.3.0,
-      record {
-        behind = A.first;
-        before = T.1;
-        is = A.is ∙ ap (λ l. A.first ++ l) (T.2 ∙ ap (λ r. r ∷ Begun n ∷ T.1) T.3.1);
-        as_many = A.as_many;
-        rests = T.4;
-      },
-    ))
+    (let T = told-apart own xs ys (Ended (Scrubbed stripes symbols blocks)) n h in
+    (T.2.0, subst (λ r. HasJob own xs ys r n) T.2.1 T.1))
 
 -- an outcome among those that are told is told, and so is what came before it
 pub told-among : (xs : List Outcome) (s : Outcome) (ys : List Outcome) →
-    AllByRecursion IsToldButBlocks (xs ++ s ∷ ys) →
-    IsToldButBlocks s × AllByRecursion IsToldButBlocks ys
+    AllByRecursion IsToldButBlocks (xs ++ s ∷ ys) → IsToldButBlocks s × AllByRecursion IsToldButBlocks ys
 told-among [] s ys all = all
 told-among (x ∷ xs) s ys all = told-among xs s ys all.1
 
@@ -110,8 +104,10 @@ told-among (x ∷ xs) s ys all = told-among xs s ys all.1
 pub last-told : (own ys : List Outcome) (how : Answer) (n : ℕ) → IsToldAnswer how →
     AreButBlocks own (Ended how ∷ Begun n ∷ ys) →
     (before : List Outcome) × (own ≡ Ended how ∷ Begun n ∷ before) × AreButBlocks before ys
-last-told own ys how n told h = (let T = two-apart own ys (Ended how) n h in
-    (T.1, T.2 ∙ ap (λ r. r ∷ Begun n ∷ T.1) (but-told T.0 how told T.3), T.4))
+last-told [] ys how n told h = absurd h
+last-told (r ∷ []) ys how n told h = absurd h.1
+last-told (r ∷ b ∷ own) ys how n told h =
+    (let e : b ≡ Begun n = h.1.0 in (own, cc (but-told r how told h.0), h.1.1))
 
 -- a job that began and ended as told, with others between
 pub record HasGet (own xs zs ys : List Outcome) (how : Answer) (n : ℕ) : Type 0 where
@@ -126,16 +122,15 @@ pub record HasGet (own xs zs ys : List Outcome) (how : Answer) (n : ℕ) : Type 
 
 pub get-told : (own xs zs ys : List Outcome) (how : Answer) (n : ℕ) → IsToldAnswer how →
     AreButBlocks own (xs ++ Ended how ∷ (zs ++ Begun n ∷ ys)) → HasGet own xs zs ys how n
-get-told own xs zs ys how n told h =
-    (let A = but-apart own xs (Ended how ∷ (zs ++ Begun n ∷ ys)) h in
+get-told own xs zs ys how n told h = (let A = but-apart own xs (Ended how ∷ (zs ++ Begun n ∷ ys)) h in
     let C = but-cons A.rest (Ended how) (zs ++ Begun n ∷ ys) A.rests in
     let D = but-apart C.1 zs (Begun n ∷ ys) C.4 in
-    let E = but-cons D.rest (Begun n) ys D.rests in record {
+    let E = but-cons D.rest (Begun n) ys D.rests in
+    let e : E.0 ≡ Begun n = E.3 in record {
       first = A.first;
       next = D.first;
       last = E.1;
-      is = A.is ∙ ap (λ l. A.first ++ l) (C.2 ∙ (ap (λ r. r ∷ C.1) (but-told C.0 how told C.3)
-          ∙ ap (λ l. Ended how ∷ l) (D.is ∙ ap (λ l. D.first ++ l) (E.2 ∙ ap (λ r. r ∷ E.1) E.3))));
+      is = cc (A.is, C.2, but-told C.0 how told C.3, D.is, E.2);
       as_many = A.as_many;
       nexts = D.as_many;
       alike = D.firsts;
@@ -148,11 +143,9 @@ begun-but n [] [] h none = tt
 begun-but n (r ∷ own) (s ∷ ss) h none = (one s h.0 none.0, begun-but n own ss h.1 none.1)
   where
     one : (s : Outcome) → IsButBlocks r s → (s ≡ Begun n → ⊥) → r ≡ Begun n → ⊥
-    one (Ended (Scrubbed a xs ys)) (own, is) other begun =
-        (let e : Ended (Scrubbed a xs own) ≡ Begun n = sym is ∙ begun in cc)
+    one (Ended (Scrubbed a xs ys)) (own, is) other begun = cc
     one s is other begun = other (sym is ∙ begun)
-begun-but n [] (s ∷ ss) h none = absurd h
-begun-but n (r ∷ own) [] h none = absurd h
+begun-but n own ss h none = absurd h
 
 -- what is over as told is over
 pub over-but : (Meant : Kind → Type 0) (cs : List Instruction) (own ss : List Outcome) (ran : List ℕ) →
@@ -164,25 +157,16 @@ over-but Meant (Once event ∷ cs) (r ∷ rs) (s ∷ ss) ran h (inr (inl (none, 
 over-but Meant (Once event ∷ cs) (r ∷ rs) (s ∷ ss) ran h (inr (inr (n, among, begun, rest))) =
     inr (inr (n, among, subst (IsButBlocks r) begun h.0, over-but Meant cs rs ss [] h.1 rest))
 over-but Meant (RunJob job ∷ cs) (r ∷ rs) (Ended how ∷ ss) ran h rest =
-    (let e = ended how h.0 in subst (λ o. AreOverFor Meant ran (RunJob job ∷ cs) (o ∷ rs)) (sym e.1)
-    (over-but Meant cs rs ss (job ∷ ran) h.1 rest))
+    (let e = ended how h.0 in rw e.1 (over-but Meant cs rs ss (job ∷ ran) h.1 rest))
   where
     ended : (how : Answer) → IsButBlocks r (Ended how) → (own : Answer) × (r ≡ Ended own)
     ended (Scrubbed a xs ys) h = (Scrubbed a xs h.0, h.1)
     ended how h = (how, h)
-over-but Meant (RunJob job ∷ cs) (r ∷ rs) (Begun n ∷ ss) ran h rest =
-    subst (λ o. AreOverFor Meant ran (RunJob job ∷ cs) (o ∷ rs)) (sym h.0) (over-but Meant cs rs ss ran h.1 rest)
 over-but Meant (RunJob job ∷ cs) (r ∷ rs) (s ∷ ss) ran h rest =
     subst (λ o. AreOverFor Meant ran (RunJob job ∷ cs) (o ∷ rs)) (sym h.0) (over-but Meant cs rs ss ran h.1 rest)
-over-but Meant [] (r ∷ rs) [] ran h is_over = absurd h
-over-but Meant [] (r ∷ rs) (s ∷ ss) ran h is_over = absurd is_over
-over-but Meant [] [] (s ∷ ss) ran h is_over = absurd is_over
-over-but Meant (Once event ∷ cs) [] [] ran h is_over = absurd is_over
-over-but Meant (Once event ∷ cs) [] (s ∷ ss) ran h is_over = absurd h
-over-but Meant (Once event ∷ cs) (r ∷ rs) [] ran h is_over = absurd h
-over-but Meant (RunJob job ∷ cs) [] [] ran h is_over = absurd is_over
-over-but Meant (RunJob job ∷ cs) [] (s ∷ ss) ran h is_over = absurd h
-over-but Meant (RunJob job ∷ cs) (r ∷ rs) [] ran h is_over = absurd h
+over-but Meant cs (r ∷ rs) [] ran h is_over = absurd h
+over-but Meant cs [] (s ∷ ss) ran h is_over = absurd h
+over-but Meant cs own ss ran h is_over = absurd is_over
 
 -- epochs as told are those of it
 pub scrubs-but : (named : List (List ℕ)) (cs : List Instruction) (own ss : List Outcome) → AreButBlocks own ss →
@@ -197,21 +181,19 @@ scrubs-but _ _ own _ h (ByScrubs.swept qs named behind front rs us s stripes sym
 -- ---- what a get gave
 
 -- the bytes that were stored, or the report holds a forgery
-pub got-right : (commands : List Instruction) (outcomes : List Outcome) (start : State) (ms : List Moment)
+pub got-back : (commands : List Instruction) (outcomes : List Outcome) (start : State) (ms : List Moment)
     (new : Seen) (end : Ending) (W : WasTold commands outcomes start ms new end) (name bytes : List ℕ) (g : ℕ)
-    (how : Answer) (G : GotBack (called_behind start ms) W.later name bytes g how) (got : List ℕ) →
-    how ≡ Got got →
-    (got ≡ bytes) ⊎ ((file : File) × (file_in (now start (G.before ++ called_behind start ms)) name ≡ Some file)
-    × HoldsForgery (file_object (now start (G.before ++ called_behind start ms)) file) bytes g end.heard)
-got-right commands outcomes start ms new end W name bytes g how G got is =
+    (how : Answer) → GotBack (called_behind start ms) W.later name bytes g how →
+    IsGotBack start (called_behind start ms) new end name bytes g how
+got-back commands outcomes start ms new end W name bytes g how G =
     (let called : List Moment = called_behind start ms in
-    let before : List Moment = G.before ++ called in
-    let split : W.later ++ called ≡ G.last ∷ (G.gaps ++ G.begin ∷ before) =
-    ap (λ l. l ++ called) G.moments
+    let split = ap (λ l. l ++ called) G.moments
     ∙ ap (λ l. G.last ∷ l) (append_assoc G.gaps (G.begin ∷ G.before) called) in
-    subst (λ h. (got ≡ bytes) ⊎ ((file : File) × (file_in (now start before) name ≡ Some file)
-    × HoldsForgery (file_object (now start before) file) bytes g h))
-    (sym (W.heard ∙ ap (heard_in start) split))
-    (put_is_got_later 8 start before G.gaps G.begin G.last g name bytes got W.left.starts
-    (subst (IsRun 8 start) split W.left.run) G.stored
-    (subst (λ h. GetEnds G.begin G.gaps G.last g name h) is G.ends)))
+    record {
+      ms = W.later;
+      left = W.left;
+      get = G;
+      right = λ got is. rw (W.heard ∙ ap (heard_in start) split)
+          (put_is_got_later 8 start (G.before ++ called) G.gaps G.begin G.last g name bytes got W.left.starts
+          (subst (IsRun 8 start) split W.left.run) G.stored (rw is at G.ends));
+    })

@@ -1,10 +1,10 @@
 -- Replays that are given outright, as their texts and what they wrote tell them.
-use Rattle.stories.proofs.Words.{◌≡◌, ◌≤◌, ℕ, true, List, [], ◌∷◌, ◌++◌, String, length, Some, Global, refl, sym, ap, ◌∙◌, inl, inr, arith, reverse, AllByRecursion, no-form, form-words, calls_none, IsToldButBlocks, tested_calls, AreFew, firm, text, spelling, IsFresh, Entry, Seen, lines_of_all, four_records, ends_hearing, IsSchedule, devices_of_seen, AnswersReplay, IsReplayForm, AreLeft, called_behind, AnswersWords, before_byte, before_text, first_state, IsToldReplay}
+use Rattle.stories.proofs.Words.{start-tells, AllTell, none_hold, ◌≡◌, ◌≤◌, ℕ, true, List, [], ◌∷◌, ◌++◌, String, length, Some, Global, refl, ap, ◌∙◌, inr, arith, reverse, AllByRecursion, no-form, form-words, calls_none, IsToldButBlocks, tested_calls, AreFew, firm, text, spelling, IsFresh, Entry, Seen, lines_of_all, four_records, ends_hearing, IsSchedule, devices_of_seen, AnswersReplay, IsReplayForm, AreLeft, called_behind, AnswersWords, before_byte, before_text, first_state, IsToldReplay}
 use Rattle.record_defs.specs.Examples.{four}
 use Rattle.hail_replay.specs.declared.forms.Form.TheVariants as forms
 use Rattle.epoch_laws.proofs.Epochs.{setup_stays}
-use Rattle.stories.specs.Words.{Setup, IsRun, Outcome, Moment, now, State, setup_in, Instruction}
-use Rattle.stories.proofs.Asked.{IsIdle, falls, first-left}
+use Rattle.stories.specs.Words.{Setup, IsRun, Outcome, Moment, now, setup_in, Instruction}
+use Rattle.stories.proofs.Asked.{IsIdle, falls, first-left, none-tell}
 use Rattle.stories.proofs.Reopened.{four-stands}
 
 -- the devices before each of them are left by the run of no event
@@ -14,6 +14,10 @@ fresh = record { firm = refl; stands = inr (four, refl, four-stands) }
 
 pub left : AreLeft first_state [] (devices_of_seen before_byte)
 left = first-left before_byte _ four_records refl fresh
+
+-- each provider tells
+pub tells : AllTell first_state
+tells = start-tells none_hold none-tell
 
 -- words that spell a replay are answered as a replay is
 pub answered : (text : List ℕ) (new : Seen) (heard : List Entry) →

@@ -19,9 +19,8 @@ pub done-all : (start : State) (ms : List Moment) (commands : List Instruction) 
     (end : Ending) → end.status ≡ 0 → AreLeft start ms (devices_of_seen old) →
     Replays start ms commands end.status (sinking old new) end.heard (devices_of_seen new) →
     WentOn start ms commands old new end
-done-all start ms commands old new end ok left R =
-    (let all : commands ≡ reverse R.done =
-    R.order ∙ (ap (λ l. reverse R.done ++ l) (R.whole ok) ∙ append-nil (reverse R.done)) in
+done-all start ms commands old new end ok left R = (let all : commands ≡ reverse R.done = R.order ∙
+    (ap (λ l. reverse R.done ++ l) (R.whole ok) ∙ append-nil (reverse R.done)) in
     let done : R.done ≡ reverse commands = sym (reverse-reverse R.done) ∙ ap reverse (sym all) in
     record {
       later = R.later;
@@ -45,9 +44,8 @@ module _ (text : List ℕ) (commands : List Instruction) (start : State) (ms : L
   went-on (AnswersReplay.too_long front reads long undone) = other 16 (omega arith) undone.status_is
   went-on (AnswersReplay.bad_line t number reads few first undone) = other 19 (omega arith) undone.status_is
   went-on (AnswersReplay.no_memory reads undone) = other 70 (omega arith) undone.status_is
-  went-on (AnswersReplay.done t reads few does) =
-      (let is : t ≡ text = whole (longest_schedule + 1) text t old.source new.source source reads
-      (omega (arith, few)) in
+  went-on (AnswersReplay.done t reads few does) = (let is : t ≡ text = whole (longest_schedule + 1) text t
+      old.source new.source source reads (omega (arith, few)) in
       subst (λ cs. WentOn start ms cs old new end)
       (AreLines-once (lines text) does.commands commands
       (subst (λ l. IsSchedule l does.commands) is does.schedule) spells)

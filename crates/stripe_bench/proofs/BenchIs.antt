@@ -11,10 +11,9 @@ pub bench-is : (s : Setup) (profile : ℕ) (bench : Bench) → bench.keys.file.s
     → bench.keys.file.shape.l ≡ s.l → bench.keys.file.shape.b ≡ s.b
     → plain_profile bench.keys.file.profile ≡ profile_of profile → bench.keys.master.0 ≡ s.master
     → IsBench s profile bench
-bench-is s profile bench n l b coded master =
-    (λ i. record {
-      shape = record { n = n i; l = l i; b = b i };
-      profile = coded i;
-      master = master i;
-      id = bench.keys.file.id;
-    })
+bench-is s profile bench n l b coded master = (λ i. record {
+  shape = record { n = n i; l = l i; b = b i };
+  profile = coded i;
+  master = master i;
+  id = bench.keys.file.id;
+})

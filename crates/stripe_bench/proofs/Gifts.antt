@@ -62,8 +62,7 @@ pub gifts_more : (o s c : ℕ) (blocks : List (Option (List ℕ))) (block : Opti
     ≡ Fetched (c + length blocks) o s block ∷ fetched_gifts o s c blocks older
 gifts_more o s c [] block older =
     (let e : c ≡ c + 0 = omega arith in ap (λ (k : ℕ). Fetched k o s block ∷ older) e)
-gifts_more o s c (b ∷ blocks) block older =
-    gifts_more o s (c + 1) blocks block (Fetched c o s b ∷ older)
+gifts_more o s c (b ∷ blocks) block older = gifts_more o s (c + 1) blocks block (Fetched c o s b ∷ older)
     ∙ (let e : c + 1 + length blocks ≡ c + length (b ∷ blocks) = omega arith in
     ap (λ (k : ℕ). Fetched k o s block ∷ fetched_gifts o s (c + 1) blocks (Fetched c o s b ∷ older)) e)
 
@@ -72,8 +71,7 @@ gifts_more o s c (b ∷ blocks) block older =
 -- the symbols of a stripe that was worked on are those that the work gave
 pub worked_is : (o s : ℕ) (rows : List ℕ) (given : List Given) →
     rows ≡ symbols_given (Worked o s rows ∷ given) o s
-worked_is o s rows given =
-    sym (cond_true ((o == o) && (s == s)) rows (symbols_given given o s)
+worked_is o s rows given = sym (cond_true ((o == o) && (s == s)) rows (symbols_given given o s)
     (λ i. eq-eqb o o refl i && eq-eqb s s refl i))
 
 -- work on another stripe changes no symbols of this one

@@ -9,8 +9,7 @@ use Rattle.stripe_bench.specs.Blocks.{given_of}
 pub written_behind : (old all new : List ℕ) (size : ℕ) → all ≡ old ++ replicate size 0 →
     length new ≡ length all → take (length old) new ≡ take (length old) all →
     new ≡ old ++ drop (length old) new
-written_behind old all new size all_is same front =
-    sym (take-append-drop (length old) new)
+written_behind old all new size all_is same front = sym (take-append-drop (length old) new)
     ∙ ap (λ (l : List ℕ). l ++ drop (length old) new)
     (front ∙ ap (take (length old)) all_is ∙ take_at old (replicate size 0) (length old) refl)
 

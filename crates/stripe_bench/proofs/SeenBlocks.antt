@@ -11,8 +11,7 @@ pub slice_get-present_blocks : (size : ℕ) (flags : List Bool) (symbols : List 
     ≡ option_map (λ (flag : Bool). if flag then Some (take size (drop (k * size) symbols)) else None)
     (slice_get flags k)
 slice_get-present_blocks size [] symbols k = refl
-slice_get-present_blocks size (flag ∷ flags) symbols zero =
-    (let e : 0 ≡ 0 * size = omega arith in
+slice_get-present_blocks size (flag ∷ flags) symbols zero = (let e : 0 ≡ 0 * size = omega arith in
     ap (λ (n : ℕ). Some (if flag then Some (take size (drop n symbols)) else None)) e)
 slice_get-present_blocks size (flag ∷ flags) symbols (suc k) =
     let e : size + k * size ≡ suc k * size = grind arith in

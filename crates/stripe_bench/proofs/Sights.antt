@@ -75,8 +75,7 @@ called-only calls xs k d y within made = record {
   count = length-set xs k y;
   away = λ none. absurd (none-some k (sym none));
   others = λ i other. get-set_other xs k i y (λ e. other (ap Some (sym e)));
-  one_call = λ i is. subst (λ (j : ℕ). CalledOnce calls j xs (slice_set xs k y))
-      (same_Some k i is)
+  one_call = λ i is. subst (λ (j : ℕ). CalledOnce calls j xs (slice_set xs k y)) (same_Some k i is)
       (ap (option_map calls) (get-set_same xs k y within) ∙ ap Some made
       ∙ sym (ap (option_map (λ p. one_more (calls p))) (slice_get-get_or xs k d within)));
 }

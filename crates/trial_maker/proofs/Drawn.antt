@@ -29,8 +29,7 @@ no-bytes seed k = refl
 pub bytes_more : (seed k n : ℕ) → bytes_behind seed k (n + 1)
     ≡ bytes_behind seed k n ++ byte_of (next_draw (draw seed (k + n))) ∷ []
 unfolding bytes_behind
-bytes_more seed k n =
-    map-range_with_len_more (λ i. byte_of (draw seed (k + i + 1))) 0 n n (omega arith)
+bytes_more seed k n = map-range_with_len_more (λ i. byte_of (draw seed (k + i + 1))) 0 n n (omega arith)
     ∙ ap (λ (x : ℕ). bytes_behind seed k n ++ byte_of x ∷ []) (draw_more seed (k + n))
 
 -- the bytes behind a draw

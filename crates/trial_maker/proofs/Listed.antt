@@ -19,23 +19,20 @@ no-losses provider = refl
 
 -- the first events, by what they are made of
 unfoldable started : List ℕ → List ℕ → List ℕ → List Instruction
-started key name bytes =
-    Once (Init (record {
-      n = 6;
-      l = 3;
-      b = 1;
-      profile = 2;
-      rounds = 4;
-      picks = 8;
-      tolerance = 0;
-      master = key;
-    })) ∷ Once Reopen ∷ whole (PutJob name bytes) 1
+started key name bytes = Once (Init (record {
+  n = 6;
+  l = 3;
+  b = 1;
+  profile = 2;
+  rounds = 4;
+  picks = 8;
+  tolerance = 0;
+  master = key;
+})) ∷ Once Reopen ∷ whole (PutJob name bytes) 1
 
 -- the first events
 pub opening_is : (seed : ℕ) (key name bytes : List ℕ) (before one two three : List Instruction) →
-    key ≡ trial_key seed → name ≡ trial_name → bytes ≡ trial_bytes seed
-    → one ≡ before ++ Once
-    (Init (record {
+    key ≡ trial_key seed → name ≡ trial_name → bytes ≡ trial_bytes seed → one ≡ before ++ Once (Init (record {
       n = 6;
       l = 3;
       b = 1;

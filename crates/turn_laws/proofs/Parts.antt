@@ -151,9 +151,8 @@ module _ (rounds picks : ℕ) (bytes : List ℕ) (p : Provider) where
           };
           images = stand-so new.disk last None (left_by last None) refl images;
           faults_are = sym so.1;
-          handed = handed-four last U.handed.count
-              ((λ i. f 0 (omega arith) i ∷ f 1 (omega arith) i ∷ f 2 (omega arith) i ∷ f 3 (omega arith) i
-              ∷ []) ∙ so.3);
+          handed = handed-four last U.handed.count ((λ i. f 0 (omega arith) i ∷ f 1 (omega arith) i ∷ f 2
+              (omega arith) i ∷ f 3 (omega arith) i ∷ []) ∙ so.3);
           outside_text = so.6;
         }));
   }

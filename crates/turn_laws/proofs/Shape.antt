@@ -23,8 +23,7 @@ four P a b c d = always (λ j. j < 4 → P j) (λ l. a) (λ l. b) (λ l. c) (λ 
     (λ j l. absurd (omega (arith, l)))
 
 -- a value that stands there already changes nothing
-same_at : {X : Type 0} (f : ℕ → X) (j : ℕ) (x : X) → x ≡ f j → (k : ℕ) →
-    (if k == j then x else f k) ≡ f k
+same_at : {X : Type 0} (f : ℕ → X) (j : ℕ) (x : X) → x ≡ f j → (k : ℕ) → (if k == j then x else f k) ≡ f k
 same_at f j x e k = elim (cases_Bool (k == j)) [
   | inl t ↦ cond_true (k == j) x (f k) t ∙ (e ∙ ap f (sym (eqb-true k j t)))
   | inr n ↦ cond_false (k == j) x (f k) n
@@ -52,9 +51,8 @@ over-is ps p q r s a b c d =
 -- a state just opened over these records and providers is the one spelled out
 pub placed-is : (area : Area) (rs : List Record) (bytes : ℕ → List ℕ) (p q r s : Provider) (w : State) →
     bytes ≡ w.bytes → IsJustOpened w area rs 1 0 (p ∷ q ∷ r ∷ s ∷ []) → placed area rs bytes p q r s w ≡ w
-placed-is area rs bytes p q r s w same V =
-    (let P : over w.providers p q r s ≡ w.providers = over-is w.providers p q r s
-    (from_some p (w.providers 0) (V.handed.each 0 (omega arith)))
+placed-is area rs bytes p q r s w same V = (let P : over w.providers p q r s ≡ w.providers = over-is
+    w.providers p q r s (from_some p (w.providers 0) (V.handed.each 0 (omega arith)))
     (from_some q (w.providers 1) (V.handed.each 1 (omega arith)))
     (from_some r (w.providers 2) (V.handed.each 2 (omega arith)))
     (from_some s (w.providers 3) (V.handed.each 3 (omega arith))) in

@@ -32,9 +32,8 @@ going w m (s ∷ sweeps) g = (let k = m + length (sweep_run w [] 1 sweeps) in
 
 -- it goes so from a state, ends, and leaves this
 abbrev pub GoesAlone : State → List Sweep → Answer → Left → State → Type 0
-GoesAlone w sweeps answer left last = AreGoing w sweeps
-    × Happens 8 0 (after_sweeps w sweeps) (Step 1) (Ended answer) last
-    × (left_by last (job_of (after_sweeps w sweeps).jobs 1) ≡ left)
+GoesAlone w sweeps answer left last = AreGoing w sweeps × Happens 8 0 (after_sweeps w sweeps) (Step 1)
+    (Ended answer) last × (left_by last (job_of (after_sweeps w sweeps).jobs 1) ≡ left)
 
 -- so it goes on to its end
 goes-on : (w : State) (m : ℕ) (sweeps : List Sweep) {answer : Answer} {left : Left} {last : State} →

@@ -45,8 +45,7 @@ by_doubt : (w : State) (image : List ℕ) (doubt : Option Doubt) → w.doubt ≡
     StandsActive image w.area (with_doubt doubt w.journal) →
     StandsPlain w image ⊎ (StandsWithDoubt w image ⊎ StandsSwitched w image)
 by_doubt w image None is stands = inl (inl stands)
-by_doubt w image (Some doubt) is stands =
-    inr (inl (record { doubt = doubt; in_doubt = is; stands = stands }))
+by_doubt w image (Some doubt) is stands = inr (inl (record { doubt = doubt; in_doubt = is; stands = stands }))
 
 -- images that stand for what is left stand for its state
 pub stand-so : (told : Option Cells) (w : State) (job : Option Job) (left : Left) → left_by w job ≡ left →
@@ -197,12 +196,11 @@ pub record PutRun (area : Area) (rs : List Record) (name bytes : List ℕ) (own 
 
 -- it may begin, reads its source to the end, and finds and leaves four providers
 abbrev pub PutsSo : Area → List Record → List ℕ → List ℕ → Option ℕ → Seen → Seen → Type 0
-PutsSo area rs name bytes own old new = (old.disk_faults ≡ 0)
-    × (old.providers ≡ each (provider_at old.providers))
-    × (refusal_over area rs (PutJob name bytes) own ≡ None) × IsSpelledKind (PutJob name bytes)
-    × (is_unknown own ≡ false) × (length new.providers ≡ length old.providers)
-    × (old.source ≡ then_told bytes new.source) × IfSome new.source (λ left. left ≡ [])
-    × (length bytes ≤ largest_file)
+PutsSo area rs name bytes own old new = (old.disk_faults ≡ 0) ×
+    (old.providers ≡ each (provider_at old.providers)) × (refusal_over area rs (PutJob name bytes) own ≡ None)
+    × IsSpelledKind (PutJob name bytes) × (is_unknown own ≡ false) ×
+    (length new.providers ≡ length old.providers) × (old.source ≡ then_told bytes new.source) × IfSome
+    new.source (λ left. left ≡ []) × (length bytes ≤ largest_file)
 
 module _ {rs : List Record} {name bytes : List ℕ} {own : Option ℕ} {answer : Answer} {old new : Seen}
     {status : ℕ} (may : MayName (PutJob name bytes) own) where

@@ -13,8 +13,7 @@ use Rattle.upgrade_run.proofs.Values.{symbols, byte_back, block, length-block, o
 
 -- one symbol of a block that provider 0 holds is altered
 abbrev alter : State → State
-alter w = called w 0 (record (w.providers 0)
-    { held = option_map (with_symbol 1 0 0 5) (w.providers 0).held })
+alter w = called w 0 (record (w.providers 0) { held = option_map (with_symbol 1 0 0 5) (w.providers 0).held })
 
 -- a stop leaves the packed journal in effect, in the other area
 abbrev pack_stays : State → State
@@ -22,16 +21,14 @@ pack_stays w = record (reread w (packed w.journal) (other_area w.area)) { doubt 
 
 -- an upgrade, and a put of a file with a profile of its own
 abbrev pub put : List Instruction
-put = Turns 2 (Gives Put ∷ Goes 12 ∷ []) ∷ Begins (BeginAt 1 name byte)
-    ∷ Turns 1 (Gives Upgraded ∷ Goes 3 ∷ []) ∷ Turned 1 (Notes Version) ∷ Begins (Begin UpgradeJob)
-    ∷ Reopens ∷ []
+put = Turns 2 (Gives Put ∷ Goes 12 ∷ []) ∷ Begins (BeginAt 1 name byte) ∷ Turns 1
+    (Gives Upgraded ∷ Goes 3 ∷ []) ∷ Turned 1 (Notes Version) ∷ Begins (Begin UpgradeJob) ∷ Reopens ∷ []
 
 -- damage, and a scrub that mends it
 abbrev pub swept : List Instruction
-swept = Sweeps 3 (Finds 1 (1 ∷ 0 ∷ 0 ∷ 0 ∷ []) (1 ∷ 0 ∷ 0 ∷ 0 ∷ []) ∷ Mends
-    ∷ Opens symbols (Store 0 1 0 ∷ End ∷ []) ∷ Brings (Some (block 3)) ∷ Brings (Some (block 2))
-    ∷ Brings (Some (block 1)) ∷ [])
-    ∷ Swept 3 (Brings (Some altered)) ∷ Begins BeginScrub ∷ Comes (Alter 0 1 0 0 5) Replaced alter ∷ put
+swept = Sweeps 3 (Finds 1 (1 ∷ 0 ∷ 0 ∷ 0 ∷ []) (1 ∷ 0 ∷ 0 ∷ 0 ∷ []) ∷ Mends ∷ Opens symbols
+    (Store 0 1 0 ∷ End ∷ []) ∷ Brings (Some (block 3)) ∷ Brings (Some (block 2)) ∷ Brings (Some (block 1)) ∷
+    []) ∷ Swept 3 (Brings (Some altered)) ∷ Begins BeginScrub ∷ Comes (Alter 0 1 0 0 5) Replaced alter ∷ put
 
 -- a get of the file as a job of this number
 abbrev pub get : ℕ → List Instruction → List Instruction
@@ -58,20 +55,20 @@ fit_put = (let small : 1 < 256 = omega arith in assumption (few, small))
 
 pub fit_swept : AreFit 8 set_up swept
 unfolding setup_in actions_of
-fit_swept = (omega arith
-    and (refl, (refl, (refl, sym (ap (map (λ n. 0 + n)) all_off), sym (ap (map found) all_off))))
-    and (refl, (refl, tt)) and (refl, (refl, (damaged_give, ap todo all_off)))
-    and assumption (own_sized 1, own_sized 2, own_sized 3))
-    and assumption (few, whole altered 16 altered_so.0) and (assumption)
-    and (omega arith, (_, ((λ x. (let e = length-block 0 in omega (arith, e)), λ x. refl), refl), refl))
-    and fit_put
+fit_swept = (omega arith and
+    (refl, (refl, (refl, sym (ap (map (λ n. 0 + n)) all_off), sym (ap (map found) all_off)))) and
+    (refl, (refl, tt)) and (refl, (refl, (damaged_give, ap todo all_off))) and assumption
+    (own_sized 1, own_sized 2, own_sized 3)) and assumption (few, whole altered 16 altered_so.0) and
+    (assumption) and (
+      omega arith,
+      (_, ((λ x. (let e = length-block 0 in omega (arith, e)), λ x. refl), refl), refl),
+    ) and fit_put
   where
     found : ℕ → ℕ
     found n = 0 + (if n == 0 then 0 else 1)
 
     todo : List ℕ → List Action
-    todo ds =
-        flat_map (λ j. if slice_index ds j == 0 then [] else Store j 1 0 ∷ []) (upto 4) ++ End ∷ []
+    todo ds = flat_map (λ j. if slice_index ds j == 0 then [] else Store j 1 0 ∷ []) (upto 4) ++ End ∷ []
 
 fit : AreFit 8 set_up (get 5 packed_too)
 unfolding setup_in actions_of

@@ -62,29 +62,14 @@ moves_first : (P : Action → Type 0) → Each P append_actions → (rest : List
 moves_first P moves rest h = each_append P append_actions rest moves h
 
 module _ (s : Setup) (job : Job) where
-  moves_put : (name bytes : List ℕ) → Each (IsAllowed s.n (PutJob name bytes)) append_actions
-  moves_put name bytes = (tt, (tt, (tt, (tt, tt))))
-
-  moves_drop : (name : List ℕ) → Each (IsAllowed s.n (DropJob name)) append_actions
-  moves_drop name = (tt, (tt, (tt, (tt, tt))))
-
-  moves_audit : Each (IsAllowed s.n AuditJob) append_actions
-  moves_audit = (tt, (tt, (tt, (tt, tt))))
-
-  moves_repair : Each (IsAllowed s.n RepairJob) append_actions
-  moves_repair = (tt, (tt, (tt, (tt, tt))))
-
-  moves_upgrade : Each (IsAllowed s.n UpgradeJob) append_actions
-  moves_upgrade = (tt, (tt, (tt, (tt, tt))))
-
   by_kind : (kind : Kind) → Each (IsAllowed s.n kind) (actions_by s job kind)
   by_kind (PutJob name bytes) =
       let P = IsAllowed s.n (PutJob name bytes) in
-      moves_first P (moves_put name bytes) _ (each_append P (store_actions s job bytes) _
+      moves_first P (tt, (tt, (tt, (tt, tt)))) _ (each_append P (store_actions s job bytes) _
       (each_flat P (λ stripe. on_each_provider s (λ j. Store j job.subject stripe))
       (upto (stripes_of (profiled s job.profile) (length bytes)))
       (λ stripe. on_providers s P (λ j. Store j job.subject stripe) (λ j less. less)))
-      (moves_first P (moves_put name bytes) _
+      (moves_first P (tt, (tt, (tt, (tt, tt)))) _
       (each_append P (remove_actions s job) (End ∷ [])
       (each_flat P (λ object. on_each_provider s (λ j. Remove j object)) job.older
       (λ object. on_providers s P (λ j. Remove j object) (λ j less. less))) (tt, tt))))
@@ -99,19 +84,19 @@ module _ (s : Setup) (job : Job) where
       (tt, tt)
   by_kind (DropJob name) =
       let P = IsAllowed s.n (DropJob name) in
-      moves_first P (moves_drop name) _
+      moves_first P (tt, (tt, (tt, (tt, tt)))) _
       (each_append P (remove_actions s job) (End ∷ [])
       (each_flat P (λ object. on_each_provider s (λ j. Remove j object)) job.older
       (λ object. on_providers s P (λ j. Remove j object) (λ j less. less))) (tt, tt))
   by_kind AuditJob =
       let P = IsAllowed s.n AuditJob in
-      moves_first P moves_audit _ (each_append P (ask_actions s job) _
+      moves_first P (tt, (tt, (tt, (tt, tt)))) _ (each_append P (ask_actions s job) _
       (each_flat P (λ (f : Pinned). flat_map (λ round. on_each_provider s (λ j. Ask j f.id round))
       (rounds_of (profiled s f.profile) (length f.bytes))) job.pinned
       (λ f. each_flat P (λ round. on_each_provider s (λ j. Ask j f.id round))
       (rounds_of (profiled s f.profile) (length f.bytes))
       (λ round. on_providers s P (λ j. Ask j f.id round) (λ j less. less))))
-      (moves_first P moves_audit (End ∷ []) (tt, tt)))
+      (moves_first P (tt, (tt, (tt, (tt, tt)))) (End ∷ []) (tt, tt)))
   by_kind RepairJob =
       let P = IsAllowed s.n RepairJob in
       each_append P (repair_actions s job) _
@@ -124,8 +109,8 @@ module _ (s : Setup) (job : Job) where
       (on_providers s P (λ j. Fetch j f.id stripe) (λ j less. less)) (tt, tt))
       (each_flat_of (λ j. j < s.n) P (λ j. cond (job.flagged j) (Store j f.id stripe ∷ []) []) (upto s.n)
       (below_upto s.n) (λ j less. flagged_one P (job.flagged j) (Store j f.id stripe) less)))))
-      (moves_first P moves_repair (End ∷ []) (tt, tt))
-  by_kind UpgradeJob = moves_first (IsAllowed s.n UpgradeJob) moves_upgrade (End ∷ []) (tt, tt)
+      (moves_first P (tt, (tt, (tt, (tt, tt)))) (End ∷ []) (tt, tt))
+  by_kind UpgradeJob = moves_first (IsAllowed s.n UpgradeJob) (tt, (tt, (tt, (tt, tt)))) (End ∷ []) (tt, tt)
 
   -- each action of a job is one that its kind has, of a provider that there is
   pub allowed : Each (IsAllowed s.n job.kind) (actions_of s job)
@@ -134,24 +119,17 @@ module _ (s : Setup) (job : Job) where
 
 end_allowed : (n : ℕ) (kind : Kind) → IsAllowed n kind End
 end_allowed n (PutJob name bytes) = tt
-end_allowed n (GetJob name) = tt
-end_allowed n (DropJob name) = tt
-end_allowed n AuditJob = tt
-end_allowed n RepairJob = tt
-end_allowed n UpgradeJob = tt
+end_allowed n _ = tt
 
 -- the next action of a job is one that it may have
 pub next_allowed : (w : State) (job : Job) (action : Action) → next_action w job ≡ Some action →
     IsAllowed (setup_in w).n job.kind action
 next_allowed w job action next = elim (cases_Bool (is_idle_drop w job job.kind)) [
   | inl t ↦ (
-      let e : Some End ≡ Some action =
-      sym (cond_true (is_idle_drop w job job.kind) (Some End)
-      (slice_get (actions_of (setup_in w) job) job.place) t) ∙ next in
-      let same : End ≡ action = cc in
+      let same : End ≡ action = cc (sym (cond_true (is_idle_drop w job job.kind) (Some End)
+      (slice_get (actions_of (setup_in w) job) job.place) t) ∙ next) in
       subst (IsAllowed (setup_in w).n job.kind) same (end_allowed (setup_in w).n job.kind))
   | inr f ↦ each_get (IsAllowed (setup_in w).n job.kind) (actions_of (setup_in w) job) job.place action
-      (allowed (setup_in w) job)
-      (sym (cond_false (is_idle_drop w job job.kind) (Some End)
+      (allowed (setup_in w) job) (sym (cond_false (is_idle_drop w job job.kind) (Some End)
       (slice_get (actions_of (setup_in w) job) job.place) f) ∙ next)
 ]

@@ -42,8 +42,7 @@ module _ (w : State) (lone : w.alone ≡ None) where
   -- where it is not, no disk call failed
   pub unbarred : None ≡ first_refusal (barring w) → w.is_barred ≡ false
   unbarred told = elim (cases_Bool w.is_barred) [
-    | inl t ↦ absurd (let b : first_refusal (barring w) ≡ Some refusal.MustReopen = rw t refl in
-        let e : None ≡ Some refusal.MustReopen = told ∙ b in cc)
+    | inl t ↦ absurd (let e : None ≡ Some refusal.MustReopen = told ∙ (rw t refl) in cc)
     | inr f ↦ f
   ]
 
@@ -73,8 +72,7 @@ drawn_sound w opened idle S =
 
 flight_on : (c : CoreView) (k : ℕ) (o : Option Append) → IsCoreFlight c o
     → IsCoreFlight (record c { next_job = k }) o
-flight_on c k None is = is
-flight_on c k (Some a) is = is
+flight_on c k _ is = is
 
 core_drawn : (c : CoreView) (w : State) → w.jobs ≡ [] → CoreIs c w
     → CoreIs (record c { next_job = c.next_job + 1 }) (drawn w)
@@ -108,14 +106,12 @@ drawn_stands v v' d w idle core keeps flight jobs S =
 pub drawn_works : (v v' : Desk) → length v.core.jobs ≤ 0
     → v'.core ≡ record v.core { next_job = v.core.next_job + 1 } → KeepsAll v v' → v'.flight ≡ v.flight
     → v'.jobs.items ≡ v.jobs.items → IsAtWork v → IsAtWork v'
-drawn_works v v' few core keeps flight jobs at = λ rest bytes.
-    ∥∥₁_map (at rest bytes) (λ x. (
-      drawn x.0,
-      x.1,
-      x.2,
-      drawn_stands v v' (devices None x.1 x.2) x.0
-          (none_run v.core.setup v.core.jobs x.0.jobs x.3.core.jobs few) core keeps flight jobs x.3,
-      λ number stripes job told runs.
-          absurd (found_none x.0.jobs number job
-          (none_run v.core.setup v.core.jobs x.0.jobs x.3.core.jobs few) runs),
-    ))
+drawn_works v v' few core keeps flight jobs at = λ rest bytes. ∥∥₁_map (at rest bytes) (λ x. (
+  drawn x.0,
+  x.1,
+  x.2,
+  drawn_stands v v' (devices None x.1 x.2) x.0
+      (none_run v.core.setup v.core.jobs x.0.jobs x.3.core.jobs few) core keeps flight jobs x.3,
+  λ number stripes job told runs. absurd (found_none x.0.jobs number job
+      (none_run v.core.setup v.core.jobs x.0.jobs x.3.core.jobs few) runs),
+))

@@ -1,5 +1,5 @@
 -- What a core and a vault tell of an ask, and the ask as a step of the machine.
-use Rattle.vault.proofs.Words.{◌≡◌, ℕ, zero, suc, ◌+◌, ◌-◌, ◌*◌, ◌/◌, ◌<◌, ◌≤◌, ◌^◌, Bool, true, false, cond, List, [], ◌∷◌, ◌++◌, take, drop, map, Option, Some, None, refl, sym, ap, subst, ◌∙◌, inl, inr, arith, slice_get, slice_set, nat_lt, list_all, Contains, mul-le-mul_right, cases_eq, eq-eqb, ne_eqb, eqb-true, and_parts, false≢true, lt-ltb, append-nil, sum_by-cons, Each, each_middle, profile_of, challenge_of, honest_answer, stripes, Cells, Provider, Asks, Setup, Plan, WriteBody, SyncBody, WriteGate, SyncGate, End, actions_of, actions_by, actions_left, append_actions, ask_actions, challenge_in, asked_challenge, HasSums, More, pinned_size, pinned_profile, Kind, AuditJob, Answered, Job, job_of, with_job, advanced_with, profiled, object_of, stripes_of, State, setup_in, going_on, with_provider, cond_true, cond_false, number_of, same_value, found_itself, counted, ShapeValue, next-left, get-drop, setup-rounds, setup-valid, moves_made, IsPadded, Counts, IsJobOf, ComesNext, pin_of, Coming, is_last_ask, is_last_ask_of, next_in, HasReply, TakesReply, Tells, CoreJob, CoreView, rest_in, job_in, PinnedValue, Reply, Question, AuditTask, Running, Task, Desk, pin_of_job, pin_in, profile_or, IsAuditNumber, IsQuestion, challenge_put, sums_on, TakesAsk, HasJudged, CanAsk, Asked, MayAsk, TellsAsk, MayTell, MayPut, vault_object, AreHanded, devices, is_ask, Round, rounds_in, asked_after, AsksOn, JudgesEach, place_in, KeepsAll, IsFed, DeskStands, Comes, DeskMakesStep, IsTask, IsRunning, AreRunning, IsAudit, empty_sums, asks_ask, AreAtHand, hand_of, setup_same}
+use Rattle.vault.proofs.Words.{◌≡◌, ℕ, zero, suc, ◌+◌, ◌-◌, ◌*◌, ◌/◌, ◌<◌, ◌≤◌, ◌^◌, Bool, true, false, cond, List, [], ◌∷◌, ◌++◌, take, drop, map, Option, Some, None, refl, sym, ap, subst, ◌∙◌, inl, inr, arith, slice_get, slice_set, nat_lt, list_all, Contains, mul-le-mul_right, cases_eq, eq-eqb, ne_eqb, eqb-true, and_parts, false≢true, lt-ltb, append-nil, sum_by-cons, Each, each_middle, profile_of, challenge_of, honest_answer, stripes, Cells, Provider, Asks, Setup, Plan, WriteBody, End, actions_of, actions_by, actions_left, append_actions, ask_actions, challenge_in, asked_challenge, HasSums, More, pinned_size, pinned_profile, Kind, AuditJob, Answered, Job, job_of, advanced_with, profiled, object_of, State, setup_in, going_on, with_provider, cond_true, cond_false, number_of, same_value, found_itself, counted, ShapeValue, next-left, get-drop, setup-rounds, setup-valid, moves_made, IsPadded, Counts, IsJobOf, ComesNext, pin_of, is_last_ask, is_last_ask_of, next_in, HasReply, TakesReply, Tells, CoreJob, CoreView, job_in, PinnedValue, Reply, Question, AuditTask, Running, Task, Desk, pin_of_job, pin_in, profile_or, IsAuditNumber, IsQuestion, challenge_put, sums_on, TakesAsk, HasJudged, CanAsk, Asked, MayAsk, TellsAsk, MayTell, MayPut, vault_object, AreHanded, devices, is_ask, Round, rounds_in, asked_after, AsksOn, place_in, KeepsAll, IsFed, DeskStands, Comes, DeskMakesStep, IsTask, IsRunning, IsAudit, empty_sums, asks_ask, hand_of, setup_same}
 use Rattle.std.proofs.Common.{◌==◌, ◌&&◌, length}
 use Rattle.machine_defs.specs.Actions.{Action, Ask}
 use Rattle.machine_defs.specs.Jobs.{Pinned}
@@ -16,35 +16,27 @@ use Rattle.vault.proofs.AskStep.{IsNext, IsPut, next_round, audit_kept, audit_ju
 use Rattle.vault.proofs.Fetched.{after}
 use Rattle.vault.proofs.Limits.{setup-picks}
 use Rattle.vault.proofs.Pins.{pin_by_id, among_is, pins_found, profile_found, core_job}
-use Rattle.vault.proofs.JobPlaces.{place_is, put_back}
-use Rattle.vault.proofs.Ways.{happens_by, actions_same, handed_on, stands_on, entry_kept, same_beyond, at_place, working, hands_goes}
+use Rattle.vault.proofs.Ways.{actions_same, handed_on, goes_on, at_place, working}
 use Rattle.vault.proofs.CoreJobs.{shown_subject, shown_pins, audit_untold}
 
 -- ---- numbers
 
 profile_some : (n : ℕ) → 1 ≤ (profile_of n).size
-profile_some zero = omega arith
-profile_some (suc zero) = omega arith
-profile_some (suc (suc zero)) = omega arith
-profile_some (suc (suc (suc zero))) = omega arith
 profile_some (suc (suc (suc (suc more)))) = omega arith
+profile_some _ = omega arith
 
 times_some : (a b : ℕ) → 1 ≤ a → 1 ≤ b → 1 ≤ a * b
 times_some a b x y = (let m = mul-le-mul_right b x in omega (arith, m, y))
 
 all_small : (limit m : ℕ) → m < limit → (n : ℕ) (xs : List ℕ) → Each (λ count. count ≤ m) (take n xs) →
-    list_all (λ count. count == 0) (drop n xs) ≡ true
-    → list_all (λ count. nat_lt count limit) xs ≡ true
-all_small limit m l zero [] each zeros = refl
-all_small limit m l (suc n) [] each zeros = refl
+    list_all (λ count. count == 0) (drop n xs) ≡ true → list_all (λ count. nat_lt count limit) xs ≡ true
 all_small limit m l zero (x ∷ xs) each zeros =
     let p = and_parts (x == 0) (list_all (λ count. count == 0) xs) zeros in
-    let none = eqb-true x 0 p.0 in
-    let small : x < limit = omega (arith, none, l) in
+    let small : x < limit = omega (arith, eqb-true x 0 p.0, l) in
     λ i. lt-ltb x limit small i && all_small limit m l zero xs each p.1 i
 all_small limit m l (suc n) (x ∷ xs) each zeros =
-    let small : x < limit = omega (arith, each.0, l) in
-    λ i. lt-ltb x limit small i && all_small limit m l n xs each.1 zeros i
+    λ i. lt-ltb x limit (omega (arith, each.0, l)) i && all_small limit m l n xs each.1 zeros i
+all_small limit m l _ [] each zeros = refl
 
 -- ---- an ask of an audit
 
@@ -54,43 +46,27 @@ asks_late : (s : Setup) (job : Job) (k o r : ℕ) (asks : List Action) →
 asks_late s job k o r asks is = by_place job.place is
   where
     by_place : (n : ℕ) → slice_get (append_actions ++ asks) n ≡ Some (Ask k o r) → 4 ≤ n
-    by_place zero e = (let f : ⊥ = cc in absurd f)
-    by_place (suc zero) e = (let f : ⊥ = cc in absurd f)
-    by_place (suc (suc zero)) e = (let f : ⊥ = cc in absurd f)
-    by_place (suc (suc (suc zero))) e = (let f : ⊥ = cc in absurd f)
     by_place (suc (suc (suc (suc n)))) e = omega arith
+    by_place _ e = (let f : ⊥ = cc in absurd f)
 
 starts_append : (k o r : ℕ) (rest : List Action) → is_last_ask (Ask k o r ∷ rest) ≡ true →
     (more : List Action) × (rest ≡ WriteBody ∷ more)
-starts_append k o r [] h = absurd (false≢true h)
 starts_append k o r (WriteBody ∷ more) h = (more, refl)
-starts_append k o r (SyncBody ∷ more) h = absurd (false≢true h)
-starts_append k o r (WriteGate ∷ more) h = absurd (false≢true h)
-starts_append k o r (SyncGate ∷ more) h = absurd (false≢true h)
-starts_append k o r (Rattle.machine_defs.specs.Actions.Store a b c ∷ more) h = absurd (false≢true h)
-starts_append k o r (Rattle.machine_defs.specs.Actions.Fetch a b c ∷ more) h = absurd (false≢true h)
-starts_append k o r (Ask a b c ∷ more) h = absurd (false≢true h)
-starts_append k o r (Rattle.machine_defs.specs.Actions.Work a b ∷ more) h = absurd (false≢true h)
-starts_append k o r (Rattle.machine_defs.specs.Actions.Remove a b ∷ more) h = absurd (false≢true h)
-starts_append k o r (End ∷ more) h = absurd (false≢true h)
+starts_append k o r _ h = absurd (false≢true h)
 
 late_by : (s : Setup) (job : Job) (k o r : ℕ) (rest : List Action) → job.kind ≡ AuditJob →
     actions_left s job ≡ Ask k o r ∷ rest → 4 ≤ job.place
 unfolding actions_of
-late_by s job k o r rest kind left =
-    let is : actions_by s job job.kind
-    ≡ append_actions ++ (ask_actions s job ++ (append_actions ++ End ∷ [])) = ap (actions_by s job) kind in
-    asks_late s job k o r (ask_actions s job ++ (append_actions ++ End ∷ []))
+late_by s job k o r rest kind left = asks_late s job k o r (ask_actions s job ++ (append_actions ++ End ∷ []))
     (sym (get-drop (append_actions ++ (ask_actions s job ++ (append_actions ++ End ∷ []))) job.place)
-    ∙ ap (λ (l : List Action). slice_get l 0) (sym (ap (drop job.place) is) ∙ left))
+    ∙ ap (λ l. slice_get l 0) (sym (ap (drop job.place) (ap (actions_by s job) kind)) ∙ left))
 
 last_tail : (s : Setup) (job : Job) (k o r : ℕ) (more : List Action) → job.kind ≡ AuditJob →
     actions_left s job ≡ Ask k o r ∷ WriteBody ∷ more →
     drop (suc job.place) (actions_of s job) ≡ append_actions ++ End ∷ []
 unfolding actions_of
 last_tail s job k o r more kind left =
-    let is : actions_by s job job.kind
-    ≡ append_actions ++ (ask_actions s job ++ (append_actions ++ End ∷ [])) = ap (actions_by s job) kind in
+    let is = ap (actions_by s job) kind in
     ap (drop (suc job.place)) is
     ∙ behind_last (ask_actions s job) (asks_ask s job) job.place k o r more
     (sym (ap (drop job.place) is) ∙ left)
@@ -104,19 +80,10 @@ AsksAt s job tail k o r t = (a : AuditTask) × (t ≡ task.Audit a) × IsAudit s
 
 audit_of : (s : Setup) (job : Job) (tail : List Action) (k o r : ℕ) → IsAllowed s.n job.kind (Ask k o r) →
     (t : Task) → IsTask s job (Ask k o r ∷ tail) t → AsksAt s job tail k o r t
-audit_of s job tail k o r allowed (task.Put t) is =
-    absurd (subst (λ (x : Kind). IsAllowed s.n x (Ask k o r)) is.kind allowed)
-audit_of s job tail k o r allowed (task.Stream t) is =
-    absurd (subst (λ (x : Kind). IsAllowed s.n x (Ask k o r)) is.kind allowed)
-audit_of s job tail k o r allowed (task.Get t) is =
-    absurd (subst (λ (x : Kind). IsAllowed s.n x (Ask k o r)) is.kind allowed)
-audit_of s job tail k o r allowed task.Drop is =
-    absurd (subst (λ (x : Kind). IsAllowed s.n x (Ask k o r)) is.kind allowed)
 audit_of s job tail k o r allowed (task.Audit t) is = (t, refl, is)
-audit_of s job tail k o r allowed (task.Repair t) is =
-    absurd (subst (λ (x : Kind). IsAllowed s.n x (Ask k o r)) is.kind allowed)
-audit_of s job tail k o r allowed task.Upgrade is =
-    absurd (subst (λ (x : Kind). IsAllowed s.n x (Ask k o r)) is allowed)
+audit_of s job tail k o r allowed task.Upgrade is = absurd (rw is at allowed)
+audit_of s job tail k o r allowed _ is = absurd (subst (λ (x : Kind). IsAllowed s.n x (Ask k o r)) is.kind
+    allowed)
 
 -- what is known of a job whose next action is an ask
 record IsAsking (v : Desk) (w : State) (number k o r : ℕ) : Type 0 where
@@ -159,8 +126,7 @@ asking v w holds faults number k o r ps stands comes =
 audit_in : (v : Desk) (w : State) (number k o r : ℕ) (it : IsAsking v w number k o r) → (x : Running) →
     IsRunning (setup_in w) x it.next.job → AsksAt (setup_in w) it.next.job (after w it.next.job) k o r x.task
 audit_in v w number k o r it x running = audit_of (setup_in w) it.next.job (after w it.next.job) k o r
-    (next_allowed w it.next.job (Ask k o r) it.next.comes) x.task
-    (subst (λ (l : List Action). IsTask (setup_in w) it.next.job l x.task) it.left_is running.task)
+    (next_allowed w it.next.job (Ask k o r) it.next.comes) x.task (rw it.left_is at running.task)
 
 module _ (v : Desk) (w : State) (number k o r : ℕ) (it : IsAsking v w number k o r) (t : AuditTask)
     (is : IsAudit (setup_in w) t it.next.job (Ask k o r ∷ after w it.next.job)) where
@@ -180,8 +146,7 @@ module _ (v : Desk) (w : State) (number k o r : ℕ) (it : IsAsking v w number k
       (pins_found 0 it.next.job.pinned it.sound_job.ascending)).file
 
   told_file : pin_in v.core number o ≡ Some (pin_of nx.x.file)
-  told_file =
-      ap (λ (j : Option CoreJob). pin_of_job j o) it.in_core.1
+  told_file = ap (λ (j : Option CoreJob). pin_of_job j o) it.in_core.1
       ∙ among_is it.in_core.0.plan.pins o
       ∙ (λ i. pin_by_id (it.in_core.2.plan i).pins (nx.id_is i))
       ∙ ap (λ (l : List PinnedValue). pin_by_id l nx.x.file.id) (shown_pins it.in_core.0.told it.next.job)
@@ -189,28 +154,23 @@ module _ (v : Desk) (w : State) (number k o r : ℕ) (it : IsAsking v w number k
 
   -- its profile is the one under which the machine asks
   profile_asked : nx.x.file.profile ≡ pinned_profile (setup_in w).profile it.next.job.pinned o
-  profile_asked =
-      ap (profile_or (setup_in w).profile) (sym found)
+  profile_asked = ap (profile_or (setup_in w).profile) (sym found)
       ∙ profile_found (setup_in w).profile it.next.job.pinned nx.x.file.id
       ∙ ap (pinned_profile (setup_in w).profile it.next.job.pinned) (sym nx.id_is)
 
   may_put : MayPut v number o
   may_put = record {
-    some_picks = subst (λ (picks : ℕ). 1 ≤ picks) (sym it.picks_are) it.picks_fit.0;
-    few_picks = subst (λ (picks : ℕ). picks ≤ 64) (sym it.picks_are) it.picks_fit.1;
+    some_picks = rw (← it.picks_are) at it.picks_fit.0;
+    few_picks = rw (← it.picks_are) at it.picks_fit.1;
     file = pin_of nx.x.file;
     found = told_file;
     few = (it.sound_job.pinned nx.x.file
         (of_file (Contains it.next.job.pinned) (contains_each it.next.job.pinned)).file).size;
-    rows =
-        (let rows : stripes (vault_object v nx.x.file.profile o) (length nx.x.file.bytes)
-        ≡ stripes_of (profiled (setup_in w) nx.x.file.profile) (length nx.x.file.bytes) =
-        (λ i. (length nx.x.file.bytes + (16 * (it.l_is i * (profile_of nx.x.file.profile).keep) - 1))
-        / (16 * (it.l_is i * (profile_of nx.x.file.profile).keep))) in
-        let some = (of_file (Contains it.next.job.pinned) (contains_each it.next.job.pinned)).rows in
-        times_some (stripes (vault_object v nx.x.file.profile o) (length nx.x.file.bytes))
-        (profile_of nx.x.file.profile).size
-        (subst (λ (m : ℕ). 1 ≤ m) (sym rows) some) (profile_some nx.x.file.profile));
+    rows = times_some (stripes (vault_object v nx.x.file.profile o) (length nx.x.file.bytes))
+        (profile_of nx.x.file.profile).size (subst (λ m. 1 ≤ m) (sym
+        (λ i. (length nx.x.file.bytes + (16 * (it.l_is i * (profile_of nx.x.file.profile).keep) - 1)) /
+        (16 * (it.l_is i * (profile_of nx.x.file.profile).keep)))) (of_file (Contains it.next.job.pinned)
+        (contains_each it.next.job.pinned)).rows) (profile_some nx.x.file.profile);
   }
 
   -- there is room, and the counters are small
@@ -218,26 +178,25 @@ module _ (v : Desk) (w : State) (number k o r : ℕ) (it : IsAsking v w number k
   may_ask n same =
       let asks = sum_by-cons (λ a. cond (is_ask a) 1 0) (Ask k o r) (after w it.next.job) in
       let within = sums_within (setup_in w) it.next.job nx.over (sums_on t) nx.sums in
-      let all = few_rounds (setup_in w) it.next.job.pinned in
-      let split = ap length nx.rounds ∙ Rattle.std.proofs.Common.length-append nx.over (nx.x ∷ nx.xs) in
-      let rounds = it.rounds_are in
-      let files : length it.next.job.pinned ≤ 1024 = it.sound_job.few in
-      let most = mul-le-mul_right (setup_in w).rounds files in
-      let small : length nx.over ≤ 65536 = omega (arith, all, split, rounds, most) in
-      let few : length nx.over < 2 ^ 31 = omega (arith, small) in
+      let most = mul-le-mul_right (setup_in w).rounds it.sound_job.few in
+      let small : length nx.over ≤ 65536 = omega (
+        arith,
+        few_rounds (setup_in w) it.next.job.pinned,
+        ap length nx.rounds ∙ Rattle.std.proofs.Common.length-append nx.over (nx.x ∷ nx.xs),
+        it.rounds_are,
+        most,
+      ) in
+      let few : length nx.over < 2 ^ 31 = omega arith in
       let heard = enough_answers nx.x k t.heard.symbols.items it.next.job.given nx.answered in
       record {
-        room = record {
-          asks = omega (arith, is.room_asks, asks);
-          symbols = omega (arith, is.room_symbols, asks);
-        };
+        room = record { asks = omega (arith, is.room_asks); symbols = omega (arith, is.room_symbols) };
         counts = record {
           n_is = is.counts.0 ∙ sym same;
           small = all_small (2 ^ 31) (length nx.over) few t.counts.n t.counts.by within.counts
               (ap (list_all (λ count. count == 0)) is.counts.1.zeros ∙ zero_all (16 - t.counts.n));
-          few = omega (arith, within.undecided, few);
+          few = omega (arith, within.undecided);
         };
-        heard = λ last. omega (arith, last, heard, t.heard.symbols.ok.0);
+        heard = λ last. omega (arith, t.heard.symbols.ok.0);
       }
 
   module _ (q : Question) (put : IsQuestion v number o r q) where
@@ -281,44 +240,36 @@ module _ (v : Desk) (w : State) (number k o r : ℕ) (it : IsAsking v w number k
     -- what the audit works with after the ask
     audit_on : (u : AuditTask) (symbol : Option ℕ) → TakesAsk v.master.0 q k t u symbol →
         IsAudit (setup_in w) u (advanced_with it.next.job (Answered k o r symbol)) (after w it.next.job)
-    audit_on u symbol takes =
-        subst (λ (a : ℕ). IsAudit (setup_in w) u (advanced_with it.next.job (Answered k a r symbol))
-        (after w it.next.job)) (sym nx.id_is)
-        (subst (λ (a : ℕ). IsAudit (setup_in w) u
-        (advanced_with it.next.job (Answered k nx.x.file.id a symbol)) (after w it.next.job))
-        (sym nx.number_is) here)
+    audit_on u symbol takes = subst (λ a. IsAudit (setup_in w) u
+        (advanced_with it.next.job (Answered k a r symbol)) (after w it.next.job)) (sym nx.id_is)
+        (subst (λ a. IsAudit (setup_in w) u (advanced_with it.next.job (Answered k nx.x.file.id a symbol))
+        (after w it.next.job)) (sym nx.number_is) here)
       where
         is_here : IsAudit (setup_in w) t it.next.job (Ask k nx.x.file.id nx.x.number ∷ after w it.next.job)
-        is_here = subst (λ (a : ℕ). IsAudit (setup_in w) t it.next.job
-            (Ask k nx.x.file.id a ∷ after w it.next.job)) nx.number_is
-            (subst (λ (a : ℕ). IsAudit (setup_in w) t it.next.job (Ask k a r ∷ after w it.next.job)) nx.id_is
-            is)
+        is_here = subst (λ a. IsAudit (setup_in w) t it.next.job (Ask k nx.x.file.id a ∷ after w it.next.job))
+            nx.number_is (subst (λ a. IsAudit (setup_in w) t it.next.job (Ask k a r ∷ after w it.next.job))
+            nx.id_is is)
 
         here : IsAudit (setup_in w) u (advanced_with it.next.job (Answered k nx.x.file.id nx.x.number symbol))
             (after w it.next.job)
         here = elim (cases_eq (k + 1) (setup_in w).n) [
-          | inl last ↦ audit_judged (setup_in w) it.next.job it.rising
+          | inl last ↦ audit_judged (setup_in w) it.next.job it.rising (late_by (setup_in w) it.next.job k o r
+              (after w it.next.job) is.kind it.left_is) k nx.x nx.xs nx.over (after w it.next.job) symbol t u
+              takes.mid q is_here nx.rounds nx.answered nx.sums is_put takes.hears last
+              (subst (λ m. HasJudged m q takes.mid u) it.master_is (takes.judged (last ∙ sym q_n)))
+              (subst (λ c. AsksOn (setup_in w).n nx.xs c (after w it.next.job))
+              (cond_true (k + 1 == (setup_in w).n) 0 (k + 1) (eq-eqb (k + 1) (setup_in w).n last))
+              (subst (λ l. AsksOn (setup_in w).n l (asked_after (setup_in w).n k) (after w it.next.job))
+              (cond_true (k + 1 == (setup_in w).n) nx.xs (nx.x ∷ nx.xs) (eq-eqb (k + 1) (setup_in w).n last))
+              nx.order))
+          | inr other ↦ subst (λ m. IsAudit (setup_in w) m (advanced_with it.next.job
+              (Answered k nx.x.file.id nx.x.number symbol)) (after w it.next.job))
+              (sym (takes.kept (λ e. other (e ∙ q_n)))) (audit_kept (setup_in w) it.next.job it.rising
               (late_by (setup_in w) it.next.job k o r (after w it.next.job) is.kind it.left_is) k nx.x nx.xs
               nx.over (after w it.next.job) symbol t u takes.mid q is_here nx.rounds nx.answered nx.sums
-              is_put takes.hears last
-              (subst (λ (m : List ℕ). HasJudged m q takes.mid u) it.master_is (takes.judged (last ∙ sym q_n)))
-              (subst (λ (c : ℕ). AsksOn (setup_in w).n nx.xs c (after w it.next.job))
-              (cond_true (k + 1 == (setup_in w).n) 0 (k + 1) (eq-eqb (k + 1) (setup_in w).n last))
-              (subst (λ (l : List Round). AsksOn (setup_in w).n l (asked_after (setup_in w).n k)
-              (after w it.next.job))
-              (cond_true (k + 1 == (setup_in w).n) nx.xs (nx.x ∷ nx.xs)
-              (eq-eqb (k + 1) (setup_in w).n last)) nx.order))
-          | inr other ↦ subst (λ (m : AuditTask). IsAudit (setup_in w) m
-              (advanced_with it.next.job (Answered k nx.x.file.id nx.x.number symbol)) (after w it.next.job))
-              (sym (takes.kept (λ e. other (e ∙ q_n))))
-              (audit_kept (setup_in w) it.next.job it.rising
-              (late_by (setup_in w) it.next.job k o r (after w it.next.job) is.kind it.left_is) k nx.x
-              nx.xs nx.over (after w it.next.job) symbol t u takes.mid q is_here nx.rounds nx.answered
-              nx.sums is_put takes.hears
-              (subst (λ (c : ℕ). AsksOn (setup_in w).n (nx.x ∷ nx.xs) c (after w it.next.job))
+              is_put takes.hears (subst (λ c. AsksOn (setup_in w).n (nx.x ∷ nx.xs) c (after w it.next.job))
               (cond_false (k + 1 == (setup_in w).n) 0 (k + 1) (ne_eqb (k + 1) (setup_in w).n other))
-              (subst (λ (l : List Round). AsksOn (setup_in w).n l (asked_after (setup_in w).n k)
-              (after w it.next.job))
+              (subst (λ l. AsksOn (setup_in w).n l (asked_after (setup_in w).n k) (after w it.next.job))
               (cond_false (k + 1 == (setup_in w).n) nx.xs (nx.x ∷ nx.xs)
               (ne_eqb (k + 1) (setup_in w).n other)) nx.order)))
         ]
@@ -332,24 +283,21 @@ module _ (v : Desk) (w : State) (number k o r : ℕ) (it : IsAsking v w number k
   all_judged symbol u is last =
       let job = it.next.job in
       let s = setup_in w in
-      let rest : rest_in v.core.setup it.in_core.0 ≡ Ask k o r ∷ after w job =
-      rest-is v.core.setup it.in_core.0 job it.in_core.2
+      let is_last : is_last_ask (Ask k o r ∷ after w job) ≡ true = ap is_last_ask
+      (sym (rest-is v.core.setup it.in_core.0 job it.in_core.2
       (audit_untold v.core.setup it.in_core.0.told job is.kind it.in_core.2.told)
-      ∙ ap (λ (x : Setup). actions_left x job) it.setup_is ∙ it.left_is in
-      let is_last : is_last_ask (Ask k o r ∷ after w job) ≡ true = ap is_last_ask (sym rest)
+      ∙ ap (λ (x : Setup). actions_left x job) it.setup_is ∙ it.left_is))
       ∙ sym (ap (is_last_ask_of v.core.setup) it.in_core.1) ∙ last in
       let st = starts_append k o r (after w job) is_last in
       let one : job.place + 1 ≡ suc job.place = omega arith in
-      let tail : after w job ≡ append_actions ++ End ∷ [] =
-      ap (λ (m : ℕ). drop m (actions_of s job)) one
-      ∙ last_tail s job k o r st.0 is.kind (it.left_is ∙ ap (λ (l : List Action). Ask k o r ∷ l) st.1) in
       let none : is.left ≡ [] = none_left s.n is.left is.asked
-      (subst (AsksOn s.n is.left is.asked) tail is.order) in
-      let all : rounds_in s job.pinned ≡ is.over = is.rounds ∙ ap (λ (l : List Round). is.over ++ l) none
+      (subst (AsksOn s.n is.left is.asked) (ap (λ (m : ℕ). drop m (actions_of s job)) one
+      ∙ last_tail s job k o r st.0 is.kind (it.left_is ∙ ap (λ (l : List Action). Ask k o r ∷ l) st.1))
+      is.order) in
+      let all : rounds_in s job.pinned ≡ is.over = is.rounds ∙ ap (λ l. is.over ++ l) none
       ∙ append-nil is.over in
       as_files s (advanced_with job (Answered k o r symbol)) job.pinned (empty_sums s) (sums_on u)
-      (subst (λ (l : List Round). JudgesEach s (advanced_with job (Answered k o r symbol)) l (empty_sums s)
-      (sums_on u)) (sym all) is.sums)
+      (rw (← all) at is.sums)
 
 -- ---- the reply to an ask
 
@@ -370,8 +318,7 @@ pub told_takes : (c : CoreView) (number k o r : ℕ) (is_last : Bool) (y : Task)
     → next_in c number ≡ Acts (Ask k o r) → is_last ≡ is_last_ask_of c.setup (job_in c.jobs number)
     → TellsAsk is_last y told → MayTell c.setup.n y → TakesReply c number told
 told_takes c number k o r is_last y told next last tells may =
-    subst (λ (x : Coming). HasReply c number x told) (sym next)
-    (told_has c number k o r is_last y told last tells may)
+    rw (← next) at (told_has c number k o r is_last y told last tells may)
 
 -- ---- what the ask comes to
 
@@ -408,28 +355,21 @@ module _ (v : Desk) (w : State) (holds : Option Cells) (faults moment number k o
       IsAudit (setup_in w) u (advanced_with it.next.job (Answered k o r symbol)) (after w it.next.job)
 
   still : (y : Task) (symbol : Option ℕ) → Asked v.master.0 q k x.task y symbol → AsksStill y symbol
-  still y symbol asked =
-      (let a = audit_in v w number k o r it x runs in
+  still y symbol asked = (let a = audit_in v w number k o r it x runs in
       by_task a.0 a.2 y (subst (λ (z : Task). Asked v.master.0 q k z y symbol) a.1 asked))
     where
       by_task : (t : AuditTask) → IsAudit (setup_in w) t it.next.job (Ask k o r ∷ after w it.next.job) →
           (y : Task) → Asked v.master.0 q k (task.Audit t) y symbol → AsksStill y symbol
       by_task t is (task.Audit u) takes = (u, refl, audit_on v w number k o r it t is q put u symbol takes)
-      by_task t is (task.Put u) takes = absurd takes
-      by_task t is (task.Stream u) takes = absurd takes
-      by_task t is (task.Get u) takes = absurd takes
-      by_task t is task.Drop takes = absurd takes
-      by_task t is (task.Repair u) takes = absurd takes
-      by_task t is task.Upgrade takes = absurd takes
+      by_task t is _ takes = absurd takes
 
   -- a last ask has a verdict
   pub tell_there : (y : Task) (symbol : Option ℕ) → Asked v.master.0 q k x.task y symbol
       → MayTell v.core.setup.n y
   tell_there y symbol asked =
       let u = still y symbol asked in
-      let n = v.core.setup.n in
-      subst (MayTell n) (sym u.1)
-      (u.2.counts.0 ∙ sym (ap (λ (s : Setup). s.n) stands.core.setup), u.2.counts.1)
+      subst (MayTell v.core.setup.n) (sym u.1)
+      (u.2.counts.0 ∙ sym (ap (λ s. s.n) stands.core.setup), u.2.counts.1)
 
   -- the reply tells what the ask came to
   tells_more : (symbol : Option ℕ) (y : Task) (p' : Provider) (is_last : Bool) (told : Reply) →
@@ -439,9 +379,8 @@ module _ (v : Desk) (w : State) (holds : Option Cells) (faults moment number k o
       → Tells number told More
       (record (going_on w (advanced_with it.next.job (Answered k o r symbol)))
       { providers = with_provider w.providers k p' })
-  tells_more symbol y p' is_last told asked last_is tells =
-      (let u = still y symbol asked in
-      by_reply is_last told last_is u.0 (subst (λ (z : Task). TellsAsk is_last z told) u.1 tells) u.2)
+  tells_more symbol y p' is_last told asked last_is tells = (let u = still y symbol asked in
+      by_reply is_last told last_is u.0 (rw u.1 at tells) u.2)
     where
       new : State
       new = record (going_on w (advanced_with it.next.job (Answered k o r symbol)))
@@ -453,31 +392,19 @@ module _ (v : Desk) (w : State) (holds : Option Cells) (faults moment number k o
           → IsAudit (setup_in w) u (advanced_with it.next.job (Answered k o r symbol)) (after w it.next.job) →
           Tells number told More new
       by_reply false reply.Done last u tells is = tt
-      by_reply false reply.Failed last u tells is = absurd tells
-      by_reply false reply.Memory last u tells is = absurd tells
-      by_reply false (reply.Lost row) last u tells is = absurd tells
-      by_reply false (reply.Verdict undecided counts) last u tells is = absurd tells
-      by_reply true reply.Done last u tells is = absurd tells
-      by_reply true reply.Failed last u tells is = absurd tells
-      by_reply true reply.Memory last u tells is = absurd tells
-      by_reply true (reply.Lost row) last u tells is = absurd tells
       by_reply true (reply.Verdict undecided counts) last u tells is = λ j found.
           let mine : it.next.job.number ≡ number = number_of w.jobs number it.next.job it.next.runs in
-          let here : job_of new.jobs it.next.job.number ≡ Some j =
-          subst (λ (m : ℕ). job_of new.jobs m ≡ Some j) (sym mine) found in
-          let before : job_of w.jobs it.next.job.number ≡ Some it.next.job =
-          subst (λ (m : ℕ). job_of w.jobs m ≡ Some it.next.job) (sym mine) it.next.runs in
           let same : advanced_with it.next.job (Answered k o r symbol) ≡ j =
           same_value _ _ j (found_itself w.jobs (advanced_with it.next.job (Answered k o r symbol))
-          it.next.job before) here in
+          it.next.job (subst (λ (m : ℕ). job_of w.jobs m ≡ Some it.next.job) (sym mine) it.next.runs))
+          (subst (λ (m : ℕ). job_of new.jobs m ≡ Some j) (sym mine) found) in
           let sums : sums_on u ≡ record { counts = counted counts; undecided = undecided } =
           (λ i. record { counts = counted ((sym tells.1) i); undecided = (sym tells.0) i }) in
-          subst (λ (s : Setup). HasSums s j (record { counts = counted counts; undecided = undecided }))
+          subst (λ s. HasSums s j (record { counts = counted counts; undecided = undecided }))
           (sym (setup_same w new refl))
-          (subst (λ (z : Job). HasSums (setup_in w) z
-          (record { counts = counted counts; undecided = undecided })) same
-          (subst (HasSums (setup_in w) (advanced_with it.next.job (Answered k o r symbol))) sums
+          (rw same at (subst (HasSums (setup_in w) (advanced_with it.next.job (Answered k o r symbol))) sums
           (all_judged v w number k o r it symbol u is (sym last))))
+      by_reply _ _ last u tells is = absurd tells
 
   -- the ask is a step of the machine
   pub ask_step : (v' : Desk) (ps' : List Provider) (p p' : Provider) (y : Running) (symbol : Option ℕ)
@@ -509,9 +436,6 @@ module _ (v : Desk) (w : State) (holds : Option Cells) (faults moment number k o
       subst (λ (z : Provider). Asks (honest_answer (asked_challenge (setup_in w) job o r)) o z symbol p') seen
       (subst (λ (m : ℕ). Asks (honest_answer (asked_challenge (setup_in w) job o r)) m p symbol p') put.id_is
       (subst (λ c. Asks (honest_answer c) q.file.id p symbol p') challenge call)) in
-      let happens = happens_by w new moment number (Ask k o r) More stands.core.is_open stands.core.none_alone
-      it.next (symbol, (p', called, refl)) in
-      let mine : next_job.number ≡ number = number_of w.jobs number job it.next.runs in
       let tail_is : actions_left (setup_in w) next_job ≡ after w job =
       ap (drop (job.place + 1))
       (actions_same (setup_in w) job (job.place + 1) (Answered k o r symbol ∷ job.given)) in
@@ -520,36 +444,21 @@ module _ (v : Desk) (w : State) (holds : Option Cells) (faults moment number k o
         task = subst (λ (l : List Action). IsTask (setup_in w) next_job l y.task) (sym tail_is)
             (subst (IsTask (setup_in w) next_job (after w job)) (sym u.1) u.2);
       } in
-      let core = fed.step w new More moment stands.core happens (record {
-        tells = tells_more symbol y.task p' is_last told asked last_is tells;
-        entry = λ b is mine. entry_kept v.core w number stands.core b is mine;
-      }) in
-      let are : AreRunning (setup_in w) v'.jobs.items new.jobs =
-      subst (λ (rs : List Running). AreRunning (setup_in w) rs (with_job w.jobs next_job)) (sym jobs)
-      (put_back (setup_in w) number y next_job running mine v.jobs.items w.jobs place stands.jobs
-      (sym (place_is v.jobs.items number) ∙ at)) in
-      record {
-        state = new;
-        happens = happens;
-        stands = stands_on v v' w new holds faults ps ps' stands
-            (record { records = refl; journal = refl; area = refl; switching = refl; doubt = refl; append = refl; faults = refl; barred = refl })
-            (subst (λ (l : List Provider). AreHanded l new) (sym ps_is)
-            (handed_on ps w new k p' stands.devices.providers is_handed_in refl (λ j. refl)))
-            core keeps flight are
-            (subst (λ (rs : List Running). AreAtHand (setup_in w) v'.core.jobs rs new.jobs) (sym jobs)
-            (hands_goes v v' w new number place x y job next_job stands.streams stands.core core fed.streams
-            it.next.runs mine at there refl (record {
-              wants = comes.wants;
-              number_is = same_number;
-              hand = ap hand_of u.1 ∙ sym (ap hand_of a.1);
-              kind = refl;
-              profile = refl;
-              place_is = refl;
-            })));
-        heard = tt;
-        beyond = λ ended. same_beyond new holds faults ps ps';
-        torn = λ e. cc;
-      }
+      goes_on v v' w new holds faults moment number place ps ps' (Ask k o r) x y next_job told stands it.next
+      (symbol, (p', called, refl))
+      (record { records = refl; journal = refl; area = refl; switching = refl; doubt = refl; append = refl; faults = refl; barred = refl })
+      refl refl running at there jobs
+      (subst (λ (l : List Provider). AreHanded l new) (sym ps_is)
+      (handed_on ps w new k p' stands.devices.providers is_handed_in refl (λ j. refl)))
+      keeps flight fed (tells_more symbol y.task p' is_last told asked last_is tells)
+      (record {
+        wants = comes.wants;
+        number_is = same_number;
+        hand = ap hand_of u.1 ∙ sym (ap hand_of a.1);
+        kind = refl;
+        profile = refl;
+        place_is = refl;
+      })
     where
       is_handed_in : k < length ps
       is_handed_in = Rattle.vault.proofs.AskStep.provider_there v w holds faults number k o r ps stands comes

@@ -1,5 +1,5 @@
 -- The order of the asks of an audit, and how many there are.
-use Rattle.vault.proofs.Words.{◌≡◌, inl, inr, ℕ, zero, suc, ◌+◌, ◌*◌, ◌≤◌, true, false, cond, List, [], ◌∷◌, ◌++◌, map, refl, sym, ◌∙◌, subst, arith, append_assoc, flat_map, range_with_len, cases_Bool, eq-eqb, ne_eqb, length-range_with_len, sum_by-append, upto, Setup, End, append_actions, on_each_provider, rounds_of, ask_actions, actions_of, Job, AuditJob, profiled, stripes_of, is_ask, asks_left, Round, rounds_in, AsksOn}
+use Rattle.vault.proofs.Words.{◌≡◌, inl, inr, ℕ, zero, suc, ◌+◌, ◌*◌, ◌≤◌, true, false, cond, List, [], ◌∷◌, ◌++◌, map, refl, ◌∙◌, arith, append_assoc, flat_map, range_with_len, cases_Bool, eq-eqb, ne_eqb, length-range_with_len, sum_by-append, upto, Setup, End, append_actions, on_each_provider, rounds_of, ask_actions, actions_of, Job, AuditJob, profiled, stripes_of, is_ask, asks_left, Round, rounds_in, AsksOn}
 use Rattle.std.proofs.Common.{◌==◌, length}
 use Rattle.machine_defs.specs.Actions.{Action, Ask}
 use Rattle.machine_defs.specs.Jobs.{Pinned}
@@ -36,9 +36,7 @@ module _ (s : Setup) (some : 1 ≤ s.n) where
   rounds-on : (f : Pinned) (rs : List ℕ) (xs : List Round) (rest : List Action) → AsksOn s.n xs 0 rest →
       AsksOn s.n (map (made f) rs ++ xs) 0 (flat_map (asks_in f) rs ++ rest)
   rounds-on f [] xs rest on = on
-  rounds-on f (r ∷ rs) xs rest on =
-      subst (AsksOn s.n (made f r ∷ (map (made f) rs ++ xs)) 0)
-      (sym (append_assoc (asks_in f r) (flat_map (asks_in f) rs) rest))
+  rounds-on f (r ∷ rs) xs rest on = rw (← (append_assoc (asks_in f r) (flat_map (asks_in f) rs) rest)) at
       (one-on f r (map (made f) rs ++ xs) (flat_map (asks_in f) rs ++ rest) (rounds-on f rs xs rest on))
 
   files-on : (fs : List Pinned) (rest : List Action) → AsksOn s.n [] 0 rest
@@ -47,12 +45,9 @@ module _ (s : Setup) (some : 1 ≤ s.n) where
       fs ++ rest)
   files-on [] rest on = on
   files-on (f ∷ fs) rest on =
-      subst (AsksOn s.n (map (made f) (rounds_of (profiled s f.profile) (length f.bytes)) ++ rounds_in s fs)
-      0)
-      (sym (append_assoc (flat_map (asks_in f) (rounds_of (profiled s f.profile) (length f.bytes)))
+      rw (← (append_assoc (flat_map (asks_in f) (rounds_of (profiled s f.profile) (length f.bytes)))
       (flat_map (λ (f : Pinned). flat_map (asks_in f) (rounds_of (profiled s f.profile) (length f.bytes)))
-      fs) rest))
-      (rounds-on f (rounds_of (profiled s f.profile) (length f.bytes)) (rounds_in s fs) _
+      fs) rest)) at (rounds-on f (rounds_of (profiled s f.profile) (length f.bytes)) (rounds_in s fs) _
       (files-on fs rest on))
 
   skip-moves : (xs : List Round) (rest : List Action) → AsksOn s.n xs 0 rest →
@@ -79,8 +74,7 @@ count-both a b = sum_by-append (λ x. cond (is_ask x) 1 0) a b
 
 count-round : (o r : ℕ) (js : List ℕ) → asks_left (map (λ j. Ask j o r) js) ≡ length js
 count-round o r [] = refl
-count-round o r (j ∷ js) =
-    count-ask j o r (map (λ j. Ask j o r) js) ∙ (let l = count-round o r js in omega (arith, l))
+count-round o r (j ∷ js) = count-ask j o r (map (λ j. Ask j o r) js) ∙ (omega (arith, count-round o r js))
 
 -- a file has at most so many rounds
 pub rounds_few : (s : Setup) (size : ℕ) → length (rounds_of s size) ≤ s.rounds
@@ -93,12 +87,9 @@ module _ (s : Setup) where
   count-rounds : (o : ℕ) (rs : List ℕ) → asks_left (flat_map (λ r. on_each_provider s (λ j. Ask j o r)) rs)
       ≡ length rs * s.n
   count-rounds o [] = omega arith
-  count-rounds o (r ∷ rs) =
-      let l = count-rounds o rs in
-      let c = count-round o r (upto s.n) in
-      count-both (on_each_provider s (λ j. Ask j o r))
+  count-rounds o (r ∷ rs) = count-both (on_each_provider s (λ j. Ask j o r))
       (flat_map (λ r. on_each_provider s (λ j. Ask j o r)) rs)
-      ∙ omega (arith, l, c, length-range_with_len 0 s.n)
+      ∙ omega (arith, count-rounds o rs, count-round o r (upto s.n), length-range_with_len 0 s.n)
 
   count-files : (fs : List Pinned) →
       asks_left (flat_map (λ (f : Pinned). flat_map (λ r. on_each_provider s (λ j. Ask j f.id r))
@@ -123,8 +114,6 @@ module _ (s : Setup) where
       asks_left (actions_of s job) ≤ length job.pinned * (s.rounds * s.n)
   unfolding actions_of
   audit-count job is =
-      let l = count-files job.pinned in
-      let b = count-both (ask_actions s job) (append_actions ++ End ∷ []) in
-      rw is (omega (arith, l, b))
+      rw is (omega (arith, count-files job.pinned, count-both (ask_actions s job) (append_actions ++ End ∷ [])))
 
 -- ---- the pinned files

@@ -1,5 +1,5 @@
 -- An ask is a step of the machine.
-use Rattle.vault.proofs.Words.{◌≡◌, ℕ, zero, suc, ◌+◌, ◌<◌, ◌≤◌, true, List, [], ◌∷◌, ◌++◌, Option, None, refl, sym, ap, subst, ◌∙◌, arith, append_assoc, length-append, replicate, list_all, append-nil, Object, Challenge, Judges, Setup, challenge_in, JudgesRound, answers_given, Kind, PutJob, GetJob, DropJob, AuditJob, RepairJob, UpgradeJob, Given, Answered, Job, advanced_with, profiled, object_of, State, setup_in, sums_of, IsPadded, Question, AuditTask, challenge_put, last_answers, sums_on, ask_put, HasHeard, HasJudged, answered_entries, Round, rounds_in, rounds_after, asked_after, AsksOn, JudgesEach, HasAnswered, IsAsked, IsAudit, empty_sums, Cells, Provider, ComesNext, Desk, devices, DeskStands, Comes}
+use Rattle.vault.proofs.Words.{◌≡◌, ℕ, zero, suc, ◌+◌, ◌<◌, ◌≤◌, true, List, [], ◌∷◌, ◌++◌, Option, None, refl, sym, ap, subst, ◌∙◌, arith, append_assoc, length-append, replicate, list_all, append-nil, Judges, Setup, challenge_in, JudgesRound, answers_given, Kind, AuditJob, Given, Answered, Job, advanced_with, profiled, object_of, State, setup_in, sums_of, IsPadded, Question, AuditTask, challenge_put, last_answers, sums_on, ask_put, HasHeard, HasJudged, answered_entries, Round, rounds_in, rounds_after, asked_after, AsksOn, JudgesEach, HasAnswered, IsAsked, IsAudit, empty_sums, Cells, Provider, ComesNext, Desk, devices, DeskStands, Comes}
 use Rattle.std.proofs.Common.{◌==◌, length}
 use Rattle.std.specs.Prelude.{vec_len, vec_capacity}
 use Rattle.machine_defs.specs.Actions.{Action, Ask}
@@ -41,29 +41,23 @@ module _ (s : Setup) (job : Job) (rising : Rattle.vault.proofs.Asks.Rising 0 0 (
     gift = Answered k x.file.id x.number symbol
 
     abbrev job' : Job
-    job' = advanced_with job (Answered k x.file.id x.number symbol)
+    job' = advanced_with job gift
 
-    heard_now : HasAnswered x (k + 1) m.heard.symbols.items (Answered k x.file.id x.number symbol ∷ job.given)
-    heard_now = subst (λ (l : List (Option ℕ)). HasAnswered x (k + 1) l
-        (Answered k x.file.id x.number symbol ∷ job.given)) (sym hears.heard.symbols)
-        (answered_more x k t.heard.symbols.items job.given symbol answered)
+    heard_now : HasAnswered x (k + 1) m.heard.symbols.items (gift ∷ job.given)
+    heard_now = rw (← hears.heard.symbols) at (answered_more x k t.heard.symbols.items job.given symbol
+        answered)
 
     same_sums : sums_on m ≡ sums_on t
     same_sums = (λ i. sums_of (hears.counts i) (hears.undecided i))
 
-    still : JudgesEach s (advanced_with job (Answered k x.file.id x.number symbol)) over (empty_sums s)
-        (sums_on m)
-    still = subst (JudgesEach s (advanced_with job (Answered k x.file.id x.number symbol)) over
-        (empty_sums s)) (sym same_sums)
-        (judges_still s job k x.file.id x.number symbol over (empty_sums s) (sums_on t)
+    still : JudgesEach s job' over (empty_sums s) (sums_on m)
+    still = rw (← same_sums) at (judges_still s job k x.file.id x.number symbol over (empty_sums s) (sums_on t)
         (apart 0 0 over x xs (subst (Rattle.vault.proofs.Asks.Rising 0 0) rounds rising)) sums)
 
     -- all but the round in work
     entries : answered_entries m.heard.job m.heard.asks.items m.heard.symbols.items
-        ≡ Rattle.machine_defs.specs.Heard.entries_of job.number
-        (Answered k x.file.id x.number symbol ∷ job.given)
-    entries =
-        (λ i. answered_entries (hears.heard.job i) (hears.heard.asks i) (hears.heard.symbols i))
+        ≡ Rattle.machine_defs.specs.Heard.entries_of job.number (gift ∷ job.given)
+    entries = (λ i. answered_entries (hears.heard.job i) (hears.heard.asks i) (hears.heard.symbols i))
         ∙ entries_more t.heard.job t.heard.asks.items t.heard.symbols.items (ask_put q k) symbol is.asks
         ∙ (λ i. is.heard i ++ record {
           job = is.job_is i;
@@ -77,8 +71,7 @@ module _ (s : Setup) (job : Job) (rising : Rattle.vault.proofs.Asks.Rising 0 0 (
     symbols_count = ap length hears.heard.symbols ∙ length-append t.heard.symbols.items (symbol ∷ [])
 
     -- with an answer that is not the last of its round, an audit is at the next provider
-    pub audit_kept : (AsksOn s.n (x ∷ xs) (k + 1) tail) →
-        IsAudit s m (advanced_with job (Answered k x.file.id x.number symbol)) tail
+    pub audit_kept : AsksOn s.n (x ∷ xs) (k + 1) tail → IsAudit s m job' tail
     audit_kept order = record {
       kind = is.kind;
       job_is = hears.heard.job ∙ is.job_is;
@@ -114,27 +107,19 @@ module _ (s : Setup) (job : Job) (rising : Rattle.vault.proofs.Asks.Rising 0 0 (
     }
 
     judged_now : k + 1 ≡ s.n → HasJudged s.master q m u →
-        JudgesRound s (advanced_with job (Answered k x.file.id x.number symbol)) x.file x.number (sums_on m)
-        (sums_on u)
-    judged_now last judged =
-        subst (λ (o : Object). Judges o
-        (challenge_in (profiled s x.file.profile) job x.file.id (length x.file.bytes) x.number)
-        (answers_given (Answered k x.file.id x.number symbol ∷ job.given) s.n x.file.id x.number)
-        (sums_on m) (sums_on u)) put.object
-        (subst (λ (c : Challenge). Judges (layout.shaped_object s.master q.file) c
-        (answers_given (Answered k x.file.id x.number symbol ∷ job.given) s.n x.file.id x.number)
-        (sums_on m) (sums_on u)) put.challenge
-        (subst (λ (l : List (Option ℕ)). Judges (layout.shaped_object s.master q.file)
-        (challenge_put s.master q) l (sums_on m) (sums_on u))
-        (ap (λ (n : ℕ). last_answers n m.heard.symbols.items) put.n_is
-        ∙ last_given x s.n m.heard.symbols.items (Answered k x.file.id x.number symbol ∷ job.given)
-        (subst (λ (n : ℕ). HasAnswered x n m.heard.symbols.items
-        (Answered k x.file.id x.number symbol ∷ job.given)) last heard_now))
+        JudgesRound s job' x.file x.number (sums_on m) (sums_on u)
+    judged_now last judged = subst (λ o. Judges o (challenge_in (profiled s x.file.profile) job x.file.id
+        (length x.file.bytes) x.number) (answers_given (gift ∷ job.given) s.n x.file.id x.number) (sums_on m)
+        (sums_on u)) put.object (subst (λ c. Judges (layout.shaped_object s.master q.file) c
+        (answers_given (gift ∷ job.given) s.n x.file.id x.number) (sums_on m) (sums_on u)) put.challenge
+        (subst (λ l. Judges (layout.shaped_object s.master q.file) (challenge_put s.master q) l (sums_on m)
+        (sums_on u)) (ap (λ n. last_answers n m.heard.symbols.items) put.n_is
+        ∙ last_given x s.n m.heard.symbols.items (gift ∷ job.given)
+        (subst (λ n. HasAnswered x n m.heard.symbols.items (gift ∷ job.given)) last heard_now))
         judged.judges))
 
     -- with the last answer of its round, judged, an audit is at the next round
-    pub audit_judged : k + 1 ≡ s.n → HasJudged s.master q m u → AsksOn s.n xs 0 tail →
-        IsAudit s u (advanced_with job (Answered k x.file.id x.number symbol)) tail
+    pub audit_judged : k + 1 ≡ s.n → HasJudged s.master q m u → AsksOn s.n xs 0 tail → IsAudit s u job' tail
     audit_judged last judged order =
         let h = judged.heard in
         record {
@@ -149,14 +134,12 @@ module _ (s : Setup) (job : Job) (rising : Rattle.vault.proofs.Asks.Rising 0 0 (
           opening = λ few. absurd (omega (arith, few, late));
           asked = 0;
           order = order;
-          in_work = nothing_yet xs u.heard.symbols.items (Answered k x.file.id x.number symbol ∷ job.given);
+          in_work = nothing_yet xs u.heard.symbols.items (gift ∷ job.given);
           counts = (
-            judged.n_is ∙ ap (λ c. c.n) hears.counts
-                ∙ is.counts.0,
+            judged.n_is ∙ ap (λ c. c.n) hears.counts ∙ is.counts.0,
             judged.padded (subst IsPadded (sym hears.counts) is.counts.1),
           );
-          sums = judges_more s (advanced_with job (Answered k x.file.id x.number symbol)) over x
-              (empty_sums s) (sums_on m) (sums_on u) still (judged_now last judged);
+          sums = judges_more s job' over x (empty_sums s) (sums_on m) (sums_on u) still (judged_now last judged);
           room_asks = omega (
             arith,
             is.room_asks,
@@ -209,9 +192,8 @@ next_round s t job k o r tail is = by_left is.left is.asked is.rounds is.order i
       rounds = rounds;
       id_is = order.1;
       number_is = order.2;
-      answered = subst (λ (c : ℕ). HasAnswered x c t.heard.symbols.items job.given) (sym order.0) work;
-      order = subst (λ (c : ℕ). AsksOn s.n (rounds_after s.n x xs c) (asked_after s.n c) tail)
-          (sym order.0) order.3;
+      answered = rw (← order.0) at work;
+      order = rw (← order.0) at order.3;
       sums = is.sums;
     }
 
@@ -224,12 +206,8 @@ module _ (v : Desk) (w : State) (holds : Option Cells) (faults number k o r : �
   within = by_kind coming.job.kind (next_allowed w coming.job (Ask k o r) coming.comes)
     where
       by_kind : (kind : Kind) → IsAllowed (setup_in w).n kind (Ask k o r) → k < (setup_in w).n
-      by_kind (PutJob name bytes) h = absurd h
-      by_kind (GetJob name) h = absurd h
-      by_kind (DropJob name) h = absurd h
       by_kind AuditJob h = h
-      by_kind RepairJob h = absurd h
-      by_kind UpgradeJob h = absurd h
+      by_kind _ h = absurd h
 
   -- the provider is there
   pub provider_there : k < length ps

@@ -1,9 +1,8 @@
 -- The rounds of an audit: what their answers are, in which order they come, and what they make of the sums.
-use Rattle.vault.proofs.Words.{◌≡◌, ℕ, zero, suc, ◌+◌, ◌-◌, ◌*◌, ◌<◌, ◌≤◌, Bool, true, false, List, [], ◌∷◌, ◌++◌, drop, map, Option, refl, sym, ap, subst, ◌∙◌, inl, inr, arith, length-append, length-drop, append_assoc, range_with_len, Contains, drop-append_seam, cases_Bool, eq-eqb, ne_eqb, eqb-true, eqb-false, false≢true, Each, each_append, each_at_most, each_zero, upto, points, bare_answers, Sums, Judges, Setup, WriteBody, End, append_actions, rounds_of, challenge_in, JudgesRound, JudgesRounds, JudgesFiles, answer_given, answers_given, pinned_size, Given, Answered, Job, advanced_with, profiled, object_of, stripes_of, cond_true, cond_false, AreAscending, last_answers, answered_entries, Round, rounds_in, JudgesEach, answered_gifts, HasAnswered, empty_sums, IsAnAsk}
+use Rattle.vault.proofs.Words.{◌≡◌, ℕ, zero, suc, ◌+◌, ◌-◌, ◌*◌, ◌<◌, ◌≤◌, Bool, true, false, List, [], ◌∷◌, ◌++◌, drop, map, Option, refl, sym, ap, subst, ◌∙◌, inl, inr, arith, length-append, length-drop, append_assoc, range_with_len, Contains, drop-append_seam, cases_Bool, eq-eqb, ne_eqb, eqb-true, eqb-false, false≢true, Each, each_append, each_at_most, each_zero, upto, points, bare_answers, Sums, Setup, WriteBody, End, append_actions, rounds_of, challenge_in, JudgesRound, JudgesRounds, JudgesFiles, answer_given, answers_given, pinned_size, Given, Answered, Job, advanced_with, profiled, object_of, stripes_of, cond_true, cond_false, AreAscending, last_answers, answered_entries, Round, rounds_in, JudgesEach, answered_gifts, HasAnswered, empty_sums, IsAnAsk}
 use Rattle.std.proofs.Common.{◌==◌, ◌&&◌, length}
 use Rattle.column_defs.proofs.CountLaws.{counts_after-within}
 use Rattle.machine_defs.specs.Actions.{Action, Ask}
-use Rattle.machine_defs.specs.Heard.{Entry}
 use Rattle.machine_defs.specs.Jobs.{Pinned}
 use Rattle.vault.specs.declared.heard.Ask.{Ask as AskValue}
 use Rattle.vault.proofs.AskOrders.{rounds_few}
@@ -14,8 +13,7 @@ use Rattle.vault.proofs.AskOrders.{rounds_few}
 below : (o r c j : ℕ) (xs : List (Option ℕ)) (older : List Given) → j < c →
     answer_given (answered_gifts o r c xs older) o r j ≡ answer_given older o r j
 below o r c j [] older less = refl
-below o r c j (x ∷ xs) older less =
-    below o r (c + 1) j xs (Answered c o r x ∷ older) (omega (arith, less))
+below o r c j (x ∷ xs) older less = below o r (c + 1) j xs (Answered c o r x ∷ older) (omega (arith, less))
     ∙ cond_false ((c == j) && (o == o) && (r == r)) x (answer_given older o r j)
     (ap (λ (t : Bool). t && (o == o) && (r == r)) (ne_eqb c j (λ e. absurd (omega (arith, less, e)))))
 
@@ -34,26 +32,22 @@ gifts_give o r c (x ∷ xs) older =
 -- one gift more
 gifts_more : (o r c : ℕ) (xs : List (Option ℕ)) (x : Option ℕ) (older : List Given) →
     answered_gifts o r c (xs ++ x ∷ []) older ≡ Answered (c + length xs) o r x ∷ answered_gifts o r c xs older
-gifts_more o r c [] x older = (let e : c ≡ c + 0 = omega arith in ap (λ (k : ℕ). Answered k o r x ∷ older) e)
-gifts_more o r c (y ∷ xs) x older =
-    gifts_more o r (c + 1) xs x (Answered c o r y ∷ older)
-    ∙ (let e : c + 1 + length xs ≡ c + length (y ∷ xs) = omega arith in
-    ap (λ (k : ℕ). Answered k o r x ∷ answered_gifts o r (c + 1) xs (Answered c o r y ∷ older)) e)
+gifts_more o r c [] x older = (ap (λ k. Answered k o r x ∷ older) (omega arith))
+gifts_more o r c (y ∷ xs) x older = gifts_more o r (c + 1) xs x (Answered c o r y ∷ older)
+    ∙ (ap (λ k. Answered k o r x ∷ answered_gifts o r (c + 1) xs (Answered c o r y ∷ older)) (omega arith))
 
 -- one entry more
 pub entries_more : (job : ℕ) (asks : List AskValue) (xs : List (Option ℕ)) (a : AskValue) (x : Option ℕ) →
-    length asks ≡ length xs
-    → answered_entries job (asks ++ a ∷ []) (xs ++ x ∷ [])
-    ≡ answered_entries job asks xs ++ record {
+    length asks ≡ length xs →
+    answered_entries job (asks ++ a ∷ []) (xs ++ x ∷ []) ≡ answered_entries job asks xs ++ record {
       job = job;
       given = Answered a.provider a.object a.round x;
     } ∷ []
 entries_more job [] [] a x same = refl
-entries_more job [] (y ∷ xs) a x same = absurd (omega (arith, same))
-entries_more job (b ∷ asks) [] a x same = absurd (omega (arith, same))
 entries_more job (b ∷ asks) (y ∷ xs) a x same =
-    ap (λ (l : List Entry). record { job = job; given = Answered b.provider b.object b.round y } ∷ l)
-    (entries_more job asks xs a x (omega (arith, same)))
+    ap (λ l. record { job = job; given = Answered b.provider b.object b.round y } ∷ l)
+    (entries_more job asks xs a x (omega arith))
+entries_more job _ _ a x same = absurd (omega (arith, same))
 
 -- no answer of a round yet
 pub none_answered : (x : Round) (symbols : List (Option ℕ)) (given : List Given) → symbols ≡ symbols ++ [] →
@@ -114,11 +108,9 @@ later : (o r : ℕ) (y x : Round) → AtLeast o r y → AtLeast y.file.id (y.num
 later o r y x a b = (
   omega (arith, a.0, b.0),
   λ e.
-      let p : o ≡ y.file.id = omega (arith, a.0, b.0, e) in
-      let q : y.file.id ≡ x.file.id = omega (arith, a.0, b.0, e) in
-      let u = a.1 p in
-      let v = b.1 q in
-      omega (arith, u, v),
+      let u = a.1 (omega (arith, a.0, b.0, e)) in
+      let v = b.1 (omega (arith, a.0, b.0, e)) in
+      omega arith,
 )
 
 behind : (o r : ℕ) (ys : List Round) (x : Round) (xs : List Round) → Rising o r (ys ++ x ∷ xs) → AtLeast o r x
@@ -216,10 +208,11 @@ pub above : (b low : ℕ) (fs : List Pinned) → b ≤ low → AreAscending low 
 above b low [] le h = tt
 above b low (f ∷ fs) le h = (omega (arith, le, h.0), above b (f.id + 1) fs (omega (arith, le, h.0)) h.1)
 
-both : (A B C : Pinned → Type 0) (fs : List Pinned) → ((f : Pinned) → A f → B f → C f) → Each A fs →
+-- two facts of each file give a third of each
+pub each_both : (A B C : Pinned → Type 0) (fs : List Pinned) → ((f : Pinned) → A f → B f → C f) → Each A fs →
     Each B fs → Each C fs
-both A B C [] h a b = tt
-both A B C (f ∷ fs) h a b = (h f a.0 b.0, both A B C fs h a.1 b.1)
+each_both A B C [] h a b = tt
+each_both A B C (f ∷ fs) h a b = (h f a.0 b.0, each_both A B C fs h a.1 b.1)
 
 -- the length of each file is found by its number
 pub sizes_found : (low : ℕ) (fs : List Pinned) → AreAscending low fs →
@@ -227,10 +220,9 @@ pub sizes_found : (low : ℕ) (fs : List Pinned) → AreAscending low fs →
 sizes_found low [] h = tt
 sizes_found low (g ∷ fs) h = (
   cond_true (g.id == g.id) (length g.bytes) (pinned_size fs g.id) (eq-eqb g.id g.id refl),
-  both (λ (f : Pinned). pinned_size fs f.id ≡ length f.bytes) (λ (f : Pinned). g.id + 1 ≤ f.id)
-      (λ (f : Pinned). pinned_size (g ∷ fs) f.id ≡ length f.bytes) fs
-      (λ f found far. cond_false (g.id == f.id) (length g.bytes) (pinned_size fs f.id)
-      (ne_eqb g.id f.id (λ e. absurd (omega (arith, far, e)))) ∙ found)
+  each_both (λ f. pinned_size fs f.id ≡ length f.bytes) (λ f. g.id + 1 ≤ f.id)
+      (λ f. pinned_size (g ∷ fs) f.id ≡ length f.bytes) fs (λ f found far. cond_false (g.id == f.id)
+      (length g.bytes) (pinned_size fs f.id) (ne_eqb g.id f.id (λ e. absurd (omega arith))) ∙ found)
       (sizes_found (g.id + 1) fs h.1) (above (g.id + 1) (g.id + 1) fs (omega arith) h.1),
 )
 
@@ -246,18 +238,11 @@ contains_each (f ∷ fs) = (
   lift (Contains fs) (Contains (f ∷ fs)) fs (λ g c. (suc c.0, omega (arith, c.1), c.2)) (contains_each fs),
 )
 
--- two facts of each file give a third of each
-pub each_both : (A B C : Pinned → Type 0) (fs : List Pinned) → ((f : Pinned) → A f → B f → C f) → Each A fs →
-    Each B fs → Each C fs
-each_both A B C fs h a b = both A B C fs h a b
-
 -- ---- the sums
 
 both_false : (a b c : Bool) → (b ≡ true → c ≡ true → ⊥) → (a && b && c) ≡ false
-both_false false b c h = refl
-both_false true false c h = refl
-both_false true true false h = refl
 both_false true true true h = absurd (h refl refl)
+both_false _ _ _ h = refl
 
 -- an answer of another round does not change those of this one
 given_other : (k o r : ℕ) (symbol : Option ℕ) (given : List Given) (p t : ℕ) → (p ≡ o → t ≡ r → ⊥) →
@@ -274,22 +259,18 @@ given_other k o r symbol given p t other (j ∷ js) =
 module _ (s : Setup) (job : Job) where
   -- the sums of other rounds are as before an answer
   pub judges_still : (k o r : ℕ) (symbol : Option ℕ) (xs : List Round) (old new : Sums) → ApartFrom o r xs →
-      JudgesEach s job xs old new
-      → JudgesEach s (advanced_with job (Answered k o r symbol)) xs old new
+      JudgesEach s job xs old new → JudgesEach s (advanced_with job (Answered k o r symbol)) xs old new
   judges_still k o r symbol [] old new far h = h
   judges_still k o r symbol (x ∷ xs) old new far h = (
     h.0,
-    subst (λ (l : List (Option ℕ)). Judges (object_of (profiled s x.file.profile) x.file.id)
-        (challenge_in (profiled s x.file.profile) job x.file.id (length x.file.bytes) x.number) l old h.0)
-        (sym (given_other k o r symbol job.given x.file.id x.number far.0 (upto s.n))) h.1,
+    (rw (← (given_other k o r symbol job.given x.file.id x.number far.0 (upto s.n))) at h.1),
     judges_still k o r symbol xs h.0 new far.1 h.2,
   )
 
   -- one round more
   pub judges_more : (xs : List Round) (x : Round) (old mid new : Sums) → JudgesEach s job xs old mid →
       JudgesRound s job x.file x.number mid new → JudgesEach s job (xs ++ x ∷ []) old new
-  judges_more [] x old mid new is j =
-      (new, subst (λ (m : Sums). JudgesRound s job x.file x.number m new) is j, refl)
+  judges_more [] x old mid new is j = (new, (rw is at j), refl)
   judges_more (y ∷ ys) x old mid new h j = (h.0, h.1, judges_more ys x h.0 mid new h.2 j)
 
   split : (xs ys : List Round) (old new : Sums) → JudgesEach s job (xs ++ ys) old new →
@@ -336,24 +317,21 @@ module _ (s : Setup) (job : Job) where
 
   all_within : (k : ℕ) (xs : List Round) (old new : Sums) → Within k old → JudgesEach s job xs old new →
       Within (k + length xs) new
-  all_within k [] old new w is = subst (Within (k + 0)) (sym is)
-      (record {
-        counts = each_at_most k (k + 0) old.counts (omega arith) w.counts;
-        undecided = omega (arith, w.undecided);
-      })
+  all_within k [] old new w is = subst (Within (k + 0)) (sym is) (record {
+    counts = each_at_most k (k + 0) old.counts (omega arith) w.counts;
+    undecided = omega (arith, w.undecided);
+  })
   all_within k (x ∷ xs) old new w h =
       (let r = all_within (k + 1) xs h.0 new (judged_within k x.file x.number old h.0 w h.1) h.2 in
       record {
-        counts = each_at_most (k + 1 + length xs) (k + length (x ∷ xs)) new.counts
-            (omega arith) r.counts;
+        counts = each_at_most (k + 1 + length xs) (k + length (x ∷ xs)) new.counts (omega arith) r.counts;
         undecided = omega (arith, r.undecided);
       })
 
   -- the sums of an audit count no more than its rounds
   pub sums_within : (xs : List Round) (sums : Sums) → JudgesEach s job xs (empty_sums s) sums →
       Within (length xs) sums
-  sums_within xs sums h = subst (λ (m : ℕ). Within m sums)
-      (let e : 0 + length xs ≡ length xs = omega arith in e)
+  sums_within xs sums h = rw (let e : 0 + length xs ≡ length xs = omega arith in e) at
       (all_within 0 xs (empty_sums s) sums (record { counts = each_zero s.n; undecided = omega arith }) h)
 
 -- ---- the last ask
@@ -363,17 +341,12 @@ moves_to_end = append_actions ++ End ∷ []
 
 not_move : (p : ℕ) (j o r : ℕ) (more : List Action) → drop p (append_actions ++ End ∷ []) ≡ Ask j o r ∷ more →
     ⊥
-not_move zero j o r more e = (let f : ⊥ = cc in f)
-not_move (suc zero) j o r more e = (let f : ⊥ = cc in f)
-not_move (suc (suc zero)) j o r more e = (let f : ⊥ = cc in f)
-not_move (suc (suc (suc zero))) j o r more e = (let f : ⊥ = cc in f)
-not_move (suc (suc (suc (suc zero)))) j o r more e = (let f : ⊥ = cc in f)
-not_move (suc (suc (suc (suc (suc p))))) j o r more e =
-    omega (
-      arith,
-      ap (λ (l : List Action). length l) e,
-      length-drop (suc (suc (suc (suc (suc p))))) (append_actions ++ End ∷ []),
-    )
+not_move (suc (suc (suc (suc (suc p))))) j o r more e = omega (
+  arith,
+  ap (λ l. length l) e,
+  length-drop (suc (suc (suc (suc (suc p))))) (append_actions ++ End ∷ []),
+)
+not_move _ j o r more e = (let f : ⊥ = cc in f)
 
 -- behind the last ask come the moves of the second append, and the end
 after_asks : (asks : List Action) → Each IsAnAsk asks → (p j o r : ℕ) (more : List Action) →
@@ -390,8 +363,5 @@ after_asks (a ∷ b ∷ asks) all zero j o r more e =
 pub behind_last : (asks : List Action) → Each IsAnAsk asks → (p j o r : ℕ) (more : List Action) →
     drop p (append_actions ++ (asks ++ (append_actions ++ End ∷ []))) ≡ Ask j o r ∷ WriteBody ∷ more
     → drop (suc p) (append_actions ++ (asks ++ (append_actions ++ End ∷ []))) ≡ append_actions ++ End ∷ []
-behind_last asks all zero j o r more e = absurd (let f : ⊥ = cc in f)
-behind_last asks all (suc zero) j o r more e = absurd (let f : ⊥ = cc in f)
-behind_last asks all (suc (suc zero)) j o r more e = absurd (let f : ⊥ = cc in f)
-behind_last asks all (suc (suc (suc zero))) j o r more e = absurd (let f : ⊥ = cc in f)
 behind_last asks all (suc (suc (suc (suc p)))) j o r more e = after_asks asks all p j o r more e
+behind_last asks all _ j o r more e = absurd (let f : ⊥ = cc in f)

@@ -1,6 +1,6 @@
 -- What a desk at work stands for, whatever devices it was lent.
 use mathlib.Core.Bool.{Bool-set}
-use Rattle.vault.proofs.Words.{◌≡◌, ◌⊎◌, ℕ, ◌*◌, ◌≤◌, List, [], get_or, Option, Some, None, Result, Ok, Err, refl, sym, ap, subst, ◌∙◌, inl, inr, arith, IsSome, is_some, OnOk, OnErr, ∥∥₁_elim, ∥∥₁_map, ℕ_set, slice_get-get_or, Provider, Setup, Kind, Job, job_of, State, setup_in, AreNumbered, IsSound, journal-same, BeginFault, Devices, devices, Desk, DeskStands, IsAtWork, DeskMakesBegin, Comes, PutEndsIn, HasEnds, DeskMakesStep, place_in, IsSameDesk, AreRunning, BeginsAt, beginning, Outcome, Step, Happens, found_more, CoreIs, stripe_size, told_in, Turn, AreAtHand, KeepsStreams, begin_outcome, outcome_of, setup_same}
+use Rattle.vault.proofs.Words.{◌≡◌, ◌⊎◌, ℕ, ◌*◌, ◌≤◌, List, [], get_or, Option, Some, None, Result, Ok, Err, refl, sym, ap, subst, ◌∙◌, inl, inr, arith, IsSome, is_some, OnOk, OnErr, ∥∥₁_elim, ∥∥₁_map, ℕ_set, slice_get-get_or, Provider, Setup, Kind, Job, job_of, State, setup_in, AreNumbered, IsSound, journal-same, BeginFault, Devices, devices, Desk, DeskStands, IsAtWork, DeskMakesBegin, Comes, PutEndsIn, HasEnds, DeskMakesStep, place_in, IsSameDesk, BeginsAt, beginning, Outcome, Step, Happens, found_more, CoreIs, stripe_size, Turn, KeepsStreams, begin_outcome, outcome_of, setup_same}
 use Rattle.std.proofs.Common.{length}
 use Rattle.machine_defs.specs.Actions.{Action}
 use Rattle.vault.proofs.JobPlaces.{place_is}
@@ -24,27 +24,22 @@ works v w faults ps stands ends = λ rest bytes. ∣ (w, faults, ps, stands, end
 
 -- the jobs of a state that were there before, and one that began
 abbrev pub ComesFrom : State → State → Type 0
-ComesFrom w new =
-    (number : ℕ) (job : Job) → job_of new.jobs number ≡ Some job
-    → (number ≡ w.next_job) ⊎ ((before : Job) × (job_of w.jobs number ≡ Some before)
-    × (job.kind ≡ before.kind) × (job.profile ≡ before.profile))
+ComesFrom w new = (number : ℕ) (job : Job) → job_of new.jobs number ≡ Some job →
+    (number ≡ w.next_job) ⊎ ((before : Job) × (job_of w.jobs number ≡ Some before) × (job.kind ≡ before.kind)
+    × (job.profile ≡ before.profile))
 
 -- the files of open streams end as before
 pub ends_kept : (v v' : Desk) (w new : State) (rest : ℕ → List ℕ) → CoreIs v.core w → CoreIs v'.core new
     → KeepsStreams v.core v'.core → ComesFrom w new → HasEnds v w rest → HasEnds v' new rest
 ends_kept v v' w new rest core core' keeps from ends number stripes job told runs =
-    let before : told_in v.core.jobs number ≡ Some stripes =
+    let before =
     sym (told_same v.core v'.core new number job core' keeps runs) ∙ told in
-    let same : setup_in w ≡ setup_in new = sym core.setup ∙ sym keeps.setup ∙ core'.setup in
     elim (from number job runs) [
-      | inl next ↦ absurd (let l = told_below v.core w number stripes core before in omega (arith, l, next))
-      | inr there ↦
-          subst (λ (s : Setup). PutEndsIn (stripes * stripe_size s job.profile) (rest number) job.kind) same
-          (subst (λ (p : ℕ). PutEndsIn (stripes * stripe_size (setup_in w) p) (rest number) job.kind)
-          (sym there.3)
+      | inl next ↦ absurd (omega (arith, told_below v.core w number stripes core before, next))
+      | inr there ↦ subst (λ s. PutEndsIn (stripes * stripe_size s job.profile) (rest number) job.kind)
+          (sym core.setup ∙ sym keeps.setup ∙ core'.setup) (rw (← there.3) at
           (subst (PutEndsIn (stripes * stripe_size (setup_in w) (there.0).profile) (rest number))
-          (sym there.2)
-          (ends number stripes there.0 before there.1)))
+          (sym there.2) (ends number stripes there.0 before there.1)))
     ]
 
 -- a begin leaves each job as it was, and may bring one more
@@ -65,8 +60,7 @@ pub begun_works : (old new : Desk) (kind : Kind) (own : Option ℕ) (result : Re
     → ((w : State) (d : Devices) (moment : ℕ) → DeskStands old d w
     → DeskMakesBegin w moment kind own result new d)
     → IsAtWork old → IsAtWork new
-begun_works old new kind own result keeps makes at = λ rest bytes.
-    ∥∥₁_map (at rest bytes) (λ x.
+begun_works old new kind own result keeps makes at = λ rest bytes. ∥∥₁_map (at rest bytes) (λ x.
     let m = makes x.0 (devices None x.1 x.2) 0 x.3 in (
       m.state,
       x.1,
@@ -80,22 +74,19 @@ begun_works old new kind own result keeps makes at = λ rest bytes.
 pub begin_keeps : (old new : Desk) (result : Result ℕ BeginFault) → OnErr result (IsSameDesk old new)
     → OnOk result (KeepsStreams old.core new.core) → KeepsStreams old.core new.core
 begin_keeps old new (Ok job) same keeps = keeps
-begin_keeps old new (Err why) same keeps =
-    subst (KeepsStreams old.core) (sym same.core) (keeps_same old.core)
+begin_keeps old new (Err why) same keeps = subst (KeepsStreams old.core) (sym same.core) (keeps_same old.core)
 
 -- a job whose action comes next has its place
 pub place_there : (v : Desk) (number : ℕ) (action : Action) → Comes v.core number action → IsAtWork v
     → IsSome (place_in v.jobs.items number)
-place_there v number action comes =
-    by_work (Bool-set _ _) v (λ w faults ps stands.
+place_there v number action comes = by_work (Bool-set _ _) v (λ w faults ps stands.
     let f = working v (devices None faults ps) w number action stands (comes.machine w stands.core) in
     ap is_some (place_is v.jobs.items number ∙ f.at))
 
 -- the core counts the providers of the setup
 pub providers_fit : (v : Desk) → IsAtWork v → v.core.setup.n ≡ v.setup.n
 providers_fit v =
-    by_work (ℕ_set _ _) v (λ w faults ps stands.
-    ap (λ (s : Setup). s.n) (stands.core.setup ∙ stands.setup))
+    by_work (ℕ_set _ _) v (λ w faults ps stands. ap (λ (s : Setup). s.n) (stands.core.setup ∙ stands.setup))
 
 -- ---- over other devices
 
@@ -108,10 +99,9 @@ over w faults ps = record w {
 }
 
 -- what the devices are, where providers enough are handed in, and the next number make no state unsound
-pub beside_sound : (w : State) (providers : ℕ → Provider) (handed faults next : ℕ) → (setup_in w).n ≤ handed
-    → AreNumbered 0 w.jobs next → IsSound 8 w
-    → IsSound 8
-    (record w { providers = providers; handed = handed; disk_faults = faults; next_job = next })
+pub beside_sound : (w : State) (providers : ℕ → Provider) (handed faults next : ℕ) → (setup_in w).n ≤ handed →
+    AreNumbered 0 w.jobs next → IsSound 8 w →
+    IsSound 8 (record w { providers = providers; handed = handed; disk_faults = faults; next_job = next })
 unfolding setup_in
 beside_sound w providers handed faults next enough numbered S = record {
   accepted = S.accepted;
@@ -157,9 +147,7 @@ beside_sound w providers handed faults next enough numbered S = record {
 over_stands : (v : Desk) (w : State) (old faults : ℕ) (older ps : List Provider) → v.setup.n ≤ length ps
     → DeskStands v (devices None old older) w → DeskStands v (devices None faults ps) (over w faults ps)
 over_stands v w old faults older ps enough S =
-    let same : setup_in (over w faults ps) ≡ setup_in w = setup_same w (over w faults ps) refl in
-    let few : (setup_in w).n ≤ length ps =
-    subst (λ (n : ℕ). n ≤ length ps) (ap (λ (s : Setup). s.n) (sym S.setup)) enough in
+    let same = setup_same w (over w faults ps) refl in
     record {
       devices = record {
         images = tt;
@@ -167,7 +155,8 @@ over_stands v w old faults older ps enough S =
         providers = record { count = refl; each = λ j below. slice_get-get_or ps j (w.providers j) below };
       };
       core = record {
-        sound = beside_sound w (over w faults ps).providers (length ps) faults w.next_job few
+        sound = beside_sound w (over w faults ps).providers (length ps) faults w.next_job
+            (subst (λ (n : ℕ). n ≤ length ps) (ap (λ (s : Setup). s.n) (sym S.setup)) enough)
             S.core.sound.numbered S.core.sound;
         is_open = S.core.is_open;
         none_alone = S.core.none_alone;
@@ -182,8 +171,8 @@ over_stands v w old faults older ps enough S =
       base = S.base;
       setup = same ∙ S.setup;
       shaped = S.shaped;
-      jobs = subst (λ (s : Setup). AreRunning s v.jobs.items w.jobs) (sym same) S.jobs;
-      streams = subst (λ (s : Setup). AreAtHand s v.core.jobs v.jobs.items w.jobs) (sym same) S.streams;
+      jobs = rw (← same) at S.jobs;
+      streams = rw (← same) at S.streams;
       flight = S.flight;
     }
 
@@ -191,8 +180,7 @@ over_stands v w old faults older ps enough S =
 ends_over : (v : Desk) (w : State) (faults : ℕ) (ps : List Provider) (rest : ℕ → List ℕ) → HasEnds v w rest
     → HasEnds v (over w faults ps) rest
 ends_over v w faults ps rest ends number stripes job told runs =
-    subst (λ (s : Setup). PutEndsIn (stripes * stripe_size s job.profile) (rest number) job.kind)
-    (sym (setup_same w (over w faults ps) refl)) (ends number stripes job told runs)
+    rw (← (setup_same w (over w faults ps) refl)) at (ends number stripes job told runs)
 
 -- a step leaves each job what it is for
 stepped_from : (w new : State) (moment number : ℕ) (outcome : Outcome) → IsSound 8 w

@@ -13,18 +13,16 @@ causes_of_name w kind name =
     ∷ record { applies = is_full (sight_of w) (aim_of kind); refusal = refusal.JournalFull } ∷ []
 
 -- a begin counts the aims of the running jobs, which are as many as the jobs
-pub aims-counted : (w : State) (more : List Cause)
-    → first_refusal (record { applies = w.is_barred; refusal = refusal.MustReopen }
-    ∷ record {
+pub aims-counted : (w : State) (more : List Cause) →
+    first_refusal (record { applies = w.is_barred; refusal = refusal.MustReopen } ∷ record {
       applies = is_shut (sight_of w) || nat_le 8 (length (aims_of w.jobs));
       refusal = refusal.Busy;
     } ∷ more)
     ≡ first_refusal (record { applies = w.is_barred; refusal = refusal.MustReopen }
     ∷ record { applies = is_shut (sight_of w) || nat_le 8 (length w.jobs); refusal = refusal.Busy } ∷ more)
 aims-counted w more =
-    ap (λ (n : ℕ). first_refusal (record { applies = w.is_barred; refusal = refusal.MustReopen }
-    ∷ record { applies = is_shut (sight_of w) || nat_le 8 n; refusal = refusal.Busy } ∷ more))
-    (length-aims w.jobs)
+    ap (λ (n : ℕ). first_refusal (record { applies = w.is_barred; refusal = refusal.MustReopen } ∷ record
+    { applies = is_shut (sight_of w) || nat_le 8 n; refusal = refusal.Busy } ∷ more)) (length-aims w.jobs)
 
 -- where memory alone is a fault, it is the one that there was
 pub memory-alone : {X : Type 0} (r : Result X BeginFault) (why : BeginFault)
@@ -36,9 +34,8 @@ memory-alone (Err f) why alone is = (let e = alone refl in cc)
 running-push : (s : Setup) (rs : List Running) (js : List Job) (r : Running) (j : Job) → AreRunning s rs js →
     IsRunning s r j → AreRunning s (rs ++ r ∷ []) (js ++ j ∷ [])
 running-push s [] [] r j are is = (is, tt)
-running-push s [] (k ∷ js) r j are is = absurd are
-running-push s (q ∷ rs) [] r j are is = absurd are
 running-push s (q ∷ rs) (k ∷ js) r j are is = (are.0, running-push s rs js r j are.1 is)
+running-push s _ _ r j are is = absurd are
 
 -- a core was told of no job under the next number
 pub untold-next : (c : CoreView) (w : State) → CoreIs c w → told_in c.jobs w.next_job ≡ None
@@ -46,8 +43,7 @@ untold-next c w is = by_value (told_in c.jobs w.next_job) refl
   where
     by_value : (o : Option ℕ) → told_in c.jobs w.next_job ≡ o → o ≡ None
     by_value None told = refl
-    by_value (Some stripes) told =
-        absurd (let l = told_below c w w.next_job stripes is told in omega (arith, l))
+    by_value (Some stripes) told = absurd (omega (arith, told_below c w w.next_job stripes is told))
 
 module _ (old new : Desk) (d : Devices) (w : State) (moment : ℕ) (kind : Kind) (own : Option ℕ)
     (stands : DeskStands old d w) where
@@ -66,25 +62,27 @@ module _ (old new : Desk) (d : Devices) (w : State) (moment : ℕ) (kind : Kind)
       record {
         state = job_begun w moment kind own;
         begins = (stands.core.is_open, accepted, next, refl);
-        stands = stands_on old new w (job_begun w moment kind own) d.holds d.faults d.providers
-            d.providers stands
-            (record { records = refl; journal = refl; area = refl; switching = refl; doubt = refl; append = refl; faults = refl; barred = refl })
-            (handed_same d.providers w (job_begun w moment kind own) stands.devices.providers refl
-            (λ j. refl))
-            core
-            keeps flight
+        stands = stands_on old new w (job_begun w moment kind own) d.holds d.faults d.providers d.providers
+            stands (record {
+              records = refl;
+              journal = refl;
+              area = refl;
+              switching = refl;
+              doubt = refl;
+              append = refl;
+              faults = refl;
+              barred = refl;
+            }) (handed_same d.providers w
+            (job_begun w moment kind own) stands.devices.providers refl (λ j. refl)) core keeps flight
             (subst (λ (items : List Running). AreRunning (setup_in w) items
-            (w.jobs ++ beginning w moment kind own ∷ [])) (sym jobs)
-            (running-push (setup_in w) old.jobs.items w.jobs _ _ stands.jobs
-            (record { number = next; task = is })))
+            (w.jobs ++ beginning w moment kind own ∷ [])) (sym jobs) (running-push (setup_in w) old.jobs.items
+            w.jobs _ _ stands.jobs (record { number = next; task = is })))
             (subst (λ (items : List Running). AreAtHand (setup_in w) new.core.jobs items
-            (w.jobs ++ beginning w moment kind own ∷ [])) (sym jobs)
-            (hands_more (setup_in w) old.core.jobs new.core.jobs old.jobs.items w.jobs
-            (record { number = number; task = task }) (beginning w moment kind own) w.next_job stands.jobs
-            stands.core.sound.numbered refl others
+            (w.jobs ++ beginning w moment kind own ∷ [])) (sym jobs) (hands_more (setup_in w) old.core.jobs
+            new.core.jobs old.jobs.items w.jobs (record { number = number; task = task })
+            (beginning w moment kind own) w.next_job stands.jobs stands.core.sound.numbered refl others
             (subst (λ (o : Option ℕ). HasAtHand (setup_in w) o (hand_of task) (beginning w moment kind own))
-            (sym told_is) hand)
-            stands.streams));
+            (sym told_is) hand) stands.streams));
       }
 
   -- a begin that is refused, and leaves the vault as it was

@@ -1,8 +1,7 @@
 -- Benches of a vault are those of the setup in effect.
-use Rattle.vault.proofs.Words.{◌≡◌, ℕ, List, [], ◌∷◌, ap, sym, ◌∙◌, Shape, profile_of, Setup, with_master, Bench, IsBench, Desk, IsShaped, AreOfSetup, IsOfDesk, IsBenchFor, AreOfDesk}
+use Rattle.vault.proofs.Words.{◌≡◌, ℕ, List, [], ◌∷◌, ap, sym, ◌∙◌, profile_of, Setup, with_master, Bench, IsBench, Desk, IsShaped, AreOfSetup, IsOfDesk, IsBenchFor, AreOfDesk}
 use Rattle.code_points.proofs.Rows.{plain-own}
 use Rattle.code_points.specs.Profile.{plain_profile}
-use Rattle.key_schedule.specs.declared.master.Master.{Master}
 use Rattle.stripe_bench.proofs.BenchIs as stripe
 
 module _ (v : Desk) (s : Setup) (shaped : IsShaped v) (setup : s ≡ with_master v.setup v.master.0) where
@@ -10,21 +9,16 @@ module _ (v : Desk) (s : Setup) (shaped : IsShaped v) (setup : s ≡ with_master
   pub of-setup : (profile : ℕ) (bench : Bench) → IsOfDesk v bench
       → plain_profile bench.keys.file.profile ≡ profile_of profile → IsBench s profile bench
   of-setup profile bench is coded =
-      stripe.bench-is s profile bench
-      (ap (λ (x : Shape). x.n) is.shape ∙ shaped.n ∙ sym (ap (λ (x : Setup). x.n) setup))
-      (ap (λ (x : Shape). x.l) is.shape ∙ shaped.l ∙ sym (ap (λ (x : Setup). x.l) setup))
-      (ap (λ (x : Shape). x.b) is.shape ∙ shaped.b ∙ sym (ap (λ (x : Setup). x.b) setup))
-      coded
-      (ap (λ (x : Master). x.0) is.master ∙ sym (ap (λ (x : Setup). x.master) setup))
+      stripe.bench-is s profile bench (ap (λ x. x.n) is.shape ∙ shaped.n ∙ sym (ap (λ x. x.n) setup))
+      (ap (λ x. x.l) is.shape ∙ shaped.l ∙ sym (ap (λ x. x.l) setup))
+      (ap (λ x. x.b) is.shape ∙ shaped.b ∙ sym (ap (λ x. x.b) setup)) coded
+      (ap (λ x. x.0) is.master ∙ sym (ap (λ x. x.master) setup))
 
   -- benches of a desk are of the setup in effect, each at its own profile
   pub all-of-setup : (benches : List Bench) → AreOfDesk v benches → AreOfSetup s benches
   all-of-setup [] are = tt
   all-of-setup (b ∷ bs) are = (
-    (
-      b.keys.file.profile.number,
-      of-setup b.keys.file.profile.number b are.0 (plain-own b.keys.file.profile),
-    ),
+    (b.keys.file.profile.number, of-setup b.keys.file.profile.number b are.0 (plain-own b.keys.file.profile)),
     all-of-setup bs are.1,
   )
 

@@ -103,11 +103,8 @@ idle-leaves v t none = record {
 }
   where
     by_turn : (t : Turn) → IsNoAction t → IfEnded t (λ ended. HasPaddedCounts ended.answer)
-    by_turn (turn.Waiting holder) none = tt
-    by_turn turn.NoSuchJob none = tt
-    by_turn turn.MustReopen none = tt
-    by_turn turn.More none = tt
     by_turn (turn.Done ended) none = absurd none
+    by_turn _ none = tt
 
 -- it leaves all as it was
 pub unchanged : (v : Vault) → IsUnchanged v v

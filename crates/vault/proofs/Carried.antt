@@ -7,8 +7,7 @@ carried_text : (f : Option Flight) (append : Option states.Append) (area : Area)
     (told : Option Cells) → IsFlight f append area rs told → CarriesText f area rs told
 carried_text None None area rs told closed = closed
 carried_text (Some f) (Some append) area rs told flight = (append.entry, flight.1)
-carried_text None (Some append) area rs told never = absurd never
-carried_text (Some f) None area rs told never = absurd never
+carried_text _ _ area rs told never = absurd never
 
 -- the disk carries a vault that stands for a state which is not barred
 pub carried : (v : Desk) (d : Devices) (w : State) → DeskStands v d w → w.is_barred ≡ false →

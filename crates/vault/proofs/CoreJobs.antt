@@ -1,5 +1,5 @@
 -- The jobs of a core beside those of the machine.
-use Rattle.vault.proofs.Words.{◌≡◌, ℕ, ◌*◌, List, [], ◌∷◌, map, Option, Some, None, refl, sym, ap, subst, ◌∙◌, inl, inr, AllZip, cases_Bool, Setup, Plan, Kind, AuditJob, aim_of, Job, job_of, cond_true, cond_false, same_value, IsJobOf, HasTold, IsPutFrom, seen_plan, shown, pin_of, stripe_size, PinnedFile, CoreJob, job_in}
+use Rattle.vault.proofs.Words.{◌≡◌, ℕ, List, [], ◌∷◌, map, Option, Some, None, refl, sym, ap, subst, ◌∙◌, inl, inr, AllZip, cases_Bool, Setup, Plan, AuditJob, Job, job_of, cond_true, cond_false, same_value, IsJobOf, HasTold, seen_plan, shown, pin_of, PinnedFile, CoreJob, job_in}
 use Rattle.std.proofs.Common.{◌==◌}
 
 -- a job of the machine has its job in the core
@@ -11,26 +11,24 @@ pub record CoreOf (s : Setup) (cs : List CoreJob) (k : ℕ) (j : Job) : Type 0 w
 -- a job of the machine has its job in the core
 pub core_of : (s : Setup) (cs : List CoreJob) (js : List Job) (k : ℕ) (j : Job) → AllZip (IsJobOf s) cs js →
     job_of js k ≡ Some j → CoreOf s cs k j
-core_of s [] [] k j are runs = (let e : None ≡ Some j = runs in cc)
-core_of s [] (x ∷ js) k j are runs = absurd are
-core_of s (c ∷ cs) [] k j are runs = absurd are
+core_of s [] [] k j are runs = (cc runs)
 core_of s (c ∷ cs) (x ∷ js) k j are runs = elim (cases_Bool (x.number == k)) [
   | inl t ↦ (
-      let same : x ≡ j = same_value _ x j (cond_true _ (Some x) (job_of js k) t) runs in
       record {
         job = c;
-        runs = cond_true (c.number == k) (Some c) (job_in cs k) (ap (λ (n : ℕ). n == k) are.0.number ∙ t);
-        is = subst (λ (y : Job). IsJobOf s c y) same are.0;
+        runs = cond_true (c.number == k) (Some c) (job_in cs k) (ap (λ n. n == k) are.0.number ∙ t);
+        is = subst (λ y. IsJobOf s c y) (same_value _ x j (cond_true _ (Some x) (job_of js k) t) runs) are.0;
       })
   | inr f ↦ (
       let more = core_of s cs js k j are.1 (sym (cond_false _ (Some x) (job_of js k) f) ∙ runs) in
       record {
         job = more.job;
-        runs = cond_false (c.number == k) (Some c) (job_in cs k) (ap (λ (n : ℕ). n == k) are.0.number ∙ f)
+        runs = cond_false (c.number == k) (Some c) (job_in cs k) (ap (λ n. n == k) are.0.number ∙ f)
             ∙ more.runs;
         is = more.is;
       })
 ]
+core_of s _ _ k j are runs = absurd are
 
 -- ---- a plan, as a core sees it
 
@@ -54,5 +52,4 @@ profile_same s c j is = ap (λ (p : Plan PinnedFile). p.profile) is.plan ∙ sho
 pub audit_untold : (s : Setup) (told : Option ℕ) (j : Job) → j.kind ≡ AuditJob → HasTold s told j
     → told ≡ None
 audit_untold s None j is has = refl
-audit_untold s (Some stripes) j is has =
-    absurd (subst (λ (kind : Kind). IsPutFrom (stripes * stripe_size s j.profile) (aim_of kind)) is has)
+audit_untold s (Some stripes) j is has = absurd (rw is at has)

@@ -1,14 +1,13 @@
 -- The end of a job is a step of the machine.
-use Rattle.vault.proofs.Words.{◌≡◌, ℕ, zero, suc, false, List, [], ◌∷◌, take, drop, Option, Some, None, refl, sym, ap, subst, ◌∙◌, arith, slice_get, nat_lt, not, flat_map, AllZip, option_map, le-ltb, upto, bytes_of_symbols, Sums, Setup, WriteBody, SyncBody, WriteGate, SyncGate, End, Plan, actions_of, actions_by, actions_left, Ended, is_first_append, HasSums, symbols_given, Kind, GetJob, AuditJob, Job, without_job, pinned_stripes, State, setup_in, ended, Ends, GotBytes, next_action, is_idle_drop, number_of, cond_false, Counts, counted, PinnedFile, ComesNext, IsJobOf, is_audit_kind, asks_next, CoreJob, job_in, Tells, Running, Task, Turn, Desk, Devices, OpensFrom, machine_answer, place_in, IsStopped, DeskStands, Comes, DeskMakesStep, IsTask, handed_same}
+use Rattle.vault.proofs.Words.{◌≡◌, ℕ, zero, suc, false, List, [], ◌∷◌, take, drop, Option, Some, None, refl, sym, ap, subst, ◌∙◌, arith, slice_get, nat_lt, not, flat_map, option_map, le-ltb, upto, bytes_of_symbols, Setup, End, Plan, actions_of, actions_by, actions_left, Ended, is_first_append, HasSums, symbols_given, Kind, GetJob, AuditJob, Job, without_job, pinned_stripes, State, setup_in, ended, Ends, GotBytes, next_action, is_idle_drop, number_of, cond_false, Counts, counted, PinnedFile, ComesNext, IsJobOf, is_audit_kind, asks_next, CoreJob, job_in, Tells, Running, Task, Turn, Desk, Devices, OpensFrom, machine_answer, place_in, IsStopped, DeskStands, Comes, DeskMakesStep, IsTask, handed_same}
 use Rattle.std.specs.Prelude.{◌&&◌}
 use Rattle.machine_defs.specs.Actions.{Action}
 use Rattle.machine_defs.specs.Answers as answers
-use Rattle.machine_defs.specs.Jobs.{Pinned}
 use Rattle.vault_core.specs.declared.reply.Reply.TheVariants as reply
 use Rattle.vault.specs.declared.tasks.Task.TheVariants as task
 use Rattle.vault.specs.Ending.{answer_at_end}
 use Rattle.vault.proofs.CoreJobs.{CoreOf, core_of, shown_subject}
-use Rattle.vault.proofs.RemoveStep.{set_same}
+use Rattle.vault.proofs.Ways.{set_same}
 use Rattle.vault.proofs.Stops.{ends_by}
 use Rattle.vault.proofs.Ways.{at_place}
 
@@ -32,17 +31,13 @@ all_opened id total k (a ∷ rest) first opens =
 -- an audit that comes to its end is past its first append
 past_first : (s : Setup) (j : Job) (place : ℕ) → slice_get (actions_by s j AuditJob) place ≡ Some End →
     nat_lt place 4 ≡ false
-past_first s j zero is = (let e : Some WriteBody ≡ Some End = is in absurd cc)
-past_first s j (suc zero) is = (let e : Some SyncBody ≡ Some End = is in absurd cc)
-past_first s j (suc (suc zero)) is = (let e : Some WriteGate ≡ Some End = is in absurd cc)
-past_first s j (suc (suc (suc zero))) is = (let e : Some SyncGate ≡ Some End = is in absurd cc)
 past_first s j (suc (suc (suc (suc place)))) is = le-ltb (suc (suc (suc (suc place)))) 4 (omega arith)
+past_first s j _ is = absurd (let f : ⊥ = cc in f)
 
 module _ (w : State) (job : Job) (next : next_action w job ≡ Some End) where
   listed : (kind : Kind) → job.kind ≡ kind → is_idle_drop w job kind ≡ false →
       slice_get (actions_of (setup_in w) job) job.place ≡ Some End
-  listed kind is busy =
-      sym (cond_false (is_idle_drop w job job.kind) (Some End)
+  listed kind is busy = sym (cond_false (is_idle_drop w job job.kind) (Some End)
       (slice_get (actions_of (setup_in w) job) job.place) (ap (is_idle_drop w job) is ∙ busy)) ∙ next
 
   past : job.kind ≡ AuditJob → is_first_append job ≡ false
@@ -68,56 +63,42 @@ module _ (w : State) (job : Job) (next : next_action w job ≡ Some End) where
       c.plan.subject ≡ subject → c.sums ≡ record { counts = counted counts; undecided = undecided }
       → (t : Task) → IsTask (setup_in w) job (actions_left (setup_in w) job) t →
       Ends w job job.kind (machine_answer (answer_at_end t subject undecided counts))
-  ends c of subject undecided counts drawn sums (task.Put t) is =
-      subst (λ (k : Kind). Ends w job k answers.Put) (sym is.kind) tt
-  ends c of subject undecided counts drawn sums (task.Stream t) is =
-      subst (λ (k : Kind). Ends w job k answers.Put) (sym is.kind) tt
   ends c of subject undecided counts drawn sums (task.Get t) is =
       let whole : is.opened ≡ pinned_stripes (setup_in w) is.file =
       all_opened is.file.id (pinned_stripes (setup_in w) is.file) is.opened (actions_left (setup_in w) job)
       (first_left (actions_of (setup_in w) job) job.place End (listed (GetJob is.name) is.kind refl))
       is.opens in
       let bytes = is.bytes ∙ ap
-      (λ (k : ℕ). flat_map (λ stripe. bytes_of_symbols (symbols_given job.given is.file.id stripe)) (upto k))
+      (λ k. flat_map (λ stripe. bytes_of_symbols (symbols_given job.given is.file.id stripe)) (upto k))
       whole in
-      subst (λ (k : Kind). Ends w job k (answers.Got (take t.length t.bytes.items))) (sym is.kind)
-      (subst (λ (ps : List Pinned). GotBytes w job ps (take t.length t.bytes.items)) (sym is.pinned)
+      subst (λ k. Ends w job k (answers.Got (take t.length t.bytes.items))) (sym is.kind)
+      (subst (λ ps. GotBytes w job ps (take t.length t.bytes.items)) (sym is.pinned)
       (λ i. take (is.length_is i) (bytes i)))
   ends c of subject undecided counts drawn sums task.Drop is =
-      subst (λ (k : Kind). Ends w job k answers.Dropped) (sym is.kind) tt
+      subst (λ k. Ends w job k answers.Dropped) (sym is.kind) tt
   ends c of subject undecided counts drawn sums (task.Audit t) is =
-      subst (λ (k : Kind). Ends w job k (answers.Audited subject undecided (counted counts))) (sym is.kind) (
+      subst (λ k. Ends w job k (answers.Audited subject undecided (counted counts))) (sym is.kind) (
         drawn_is c of subject drawn,
-        subst (λ (x : Sums). HasSums (setup_in w) job x) sums
-            (sums_are c of is.kind),
+        subst (λ x. HasSums (setup_in w) job x) sums (sums_are c of is.kind),
       )
   ends c of subject undecided counts drawn sums (task.Repair t) is =
-      subst (λ (k : Kind). Ends w job k (answers.Repaired subject)) (sym is.kind)
-      (drawn_is c of subject drawn)
+      subst (λ k. Ends w job k (answers.Repaired subject)) (sym is.kind) (drawn_is c of subject drawn)
   ends c of subject undecided counts drawn sums task.Upgrade is =
-      subst (λ (k : Kind). Ends w job k answers.Upgraded) (sym is) tt
+      subst (λ k. Ends w job k answers.Upgraded) (sym is) tt
+  ends c of subject undecided counts drawn sums _ is = subst (λ (k : Kind). Ends w job k answers.Put)
+      (sym is.kind) tt
 
 -- such an answer is that of a job that came to its end
 well : (number subject undecided : ℕ) (counts : Counts) (new : State) (t : Task) →
     Tells number reply.Done (Ended (machine_answer (answer_at_end t subject undecided counts))) new
 well number subject undecided counts new (task.Put t) = tt
-well number subject undecided counts new (task.Stream t) = tt
-well number subject undecided counts new (task.Get t) = tt
-well number subject undecided counts new task.Drop = tt
-well number subject undecided counts new (task.Audit t) = tt
-well number subject undecided counts new (task.Repair t) = tt
-well number subject undecided counts new task.Upgrade = tt
+well number subject undecided counts new _ = tt
 
 -- nor is it a fault of the disk
 no_fault : (t : Task) (subject undecided : ℕ) (counts : Counts) →
     machine_answer (answer_at_end t subject undecided counts) ≡ answers.DiskFault → ⊥
 no_fault (task.Put t) subject undecided counts e = cc
-no_fault (task.Stream t) subject undecided counts e = cc
-no_fault (task.Get t) subject undecided counts e = cc
-no_fault task.Drop subject undecided counts e = cc
-no_fault (task.Audit t) subject undecided counts e = cc
-no_fault (task.Repair t) subject undecided counts e = cc
-no_fault task.Upgrade subject undecided counts e = cc
+no_fault _ subject undecided counts e = cc
 
 some_of : {X Y : Type 0} (f : X → Y) (o : Option X) (x : X) (y : Y) → o ≡ Some x → option_map f o ≡ Some y →
     f x ≡ y
@@ -130,8 +111,7 @@ module _ (v : Desk) (d : Devices) (w : State) (moment number : ℕ) (stands : De
 
   of_core : CoreOf (setup_in w) v.core.jobs number coming.job
   of_core = core_of (setup_in w) v.core.jobs w.jobs number coming.job
-      (subst (λ (s : Setup). AllZip (IsJobOf s) v.core.jobs w.jobs) stands.core.setup stands.core.jobs)
-      coming.runs
+      (rw stands.core.setup at stands.core.jobs) coming.runs
 
   -- the end is a step of the machine
   pub end_step : (v2 : Desk) (t : Turn) (place subject undecided : ℕ) (counts : Counts) (r : Running)
@@ -142,14 +122,13 @@ module _ (v : Desk) (d : Devices) (w : State) (moment number : ℕ) (stands : De
       → IsStopped v number reply.Done (answer_at_end r.task subject undecided counts) t v2 →
       DeskMakesStep w moment number t v2 d d
   end_step v2 t place subject undecided counts r subject_is sums_is at there stopped =
-      let new : State = ended w coming.job in
-      let running = at_place v d w number place End r stands coming at there in
-      let drawn = some_of (λ (j : CoreJob). j.plan.subject) _ of_core.job subject of_core.runs subject_is in
-      let sums = some_of (λ (j : CoreJob). j.sums) _ of_core.job _ of_core.runs sums_is in
+      let new = ended w coming.job in
       ends_by v v v2 w new d.holds d.faults moment number place d.providers d.providers End r r reply.Done
       (answer_at_end r.task subject undecided counts) t stands coming (
-        ends w coming.job coming.comes of_core.job of_core.is subject undecided counts drawn sums r.task
-            running.task,
+        ends w coming.job coming.comes of_core.job of_core.is subject undecided counts
+            (some_of (λ (j : CoreJob). j.plan.subject) _ of_core.job subject of_core.runs subject_is)
+            (some_of (λ (j : CoreJob). j.sums) _ of_core.job _ of_core.runs sums_is) r.task
+            (at_place v d w number place End r stands coming at there).task,
         refl,
       )
       (record { records = refl; journal = refl; area = refl; switching = refl; doubt = refl; append = refl; faults = refl; barred = refl })

@@ -1,9 +1,8 @@
 -- A fetch is a step of the machine.
-use Rattle.vault.proofs.Words.{◌≡◌, ℕ, ◌+◌, ◌*◌, ◌<◌, ◌≤◌, Bool, List, ◌∷◌, Option, Some, None, inl, inr, refl, sym, ap, subst, ◌∙◌, arith, slice_get, slice_set, cases_eq, Object, Cells, Provider, Fetch, pinned_profile, Kind, PutJob, DropJob, AuditJob, UpgradeJob, Fetched, Job, advanced_with, pinned_stripes, State, setup_in, worked_object, going_on, with_provider, next_action, ComesNext, Setup, Bench, IsBench, RepairTask, Running, Task, Desk, given_of, devices, TakesFetch, HasRoomFor, fetch_size, place_in, KeepsAll, IsFed, DeskStands, Comes, DeskMakesStep, pin_in, profile_or, TakesUp, Turns, TurnsTo, Phase, Between, Fetching, Opened, fetched_in, AreOfSetup, HasBenchFor, IsAtHand, IsRepair, IsTask, IsRunning}
+use Rattle.vault.proofs.Words.{◌≡◌, ℕ, ◌+◌, ◌*◌, ◌<◌, ◌≤◌, Bool, List, ◌∷◌, Option, Some, None, inl, inr, refl, sym, ap, subst, ◌∙◌, arith, slice_get, slice_set, cases_eq, Object, Cells, Provider, Fetch, pinned_profile, Kind, PutJob, DropJob, AuditJob, UpgradeJob, Fetched, Job, advanced_with, pinned_stripes, State, setup_in, worked_object, going_on, with_provider, next_action, ComesNext, Setup, Bench, IsBench, RepairTask, Running, Task, Desk, given_of, devices, TakesFetch, HasRoomFor, fetch_size, place_in, KeepsAll, IsFed, DeskStands, Comes, DeskMakesStep, pin_in, profile_or, TakesUp, Turns, TurnsTo, Phase, Fetching, fetched_in, AreOfSetup, HasBenchFor, IsAtHand, IsRepair, IsTask, IsRunning}
 use Rattle.std.proofs.Common.{length}
 use Rattle.std.specs.Prelude.{vec_capacity}
 use Rattle.device_defs.specs.ProviderCalls.{Fetches}
-use Rattle.machine_defs.specs.Actions.{Action}
 use Rattle.vault_core.specs.declared.reply.Reply.TheVariants as reply
 use Rattle.vault.specs.declared.tasks.Task.TheVariants as task
 use Rattle.vault.specs.declared.turn.Turn.TheVariants as turn
@@ -22,23 +21,20 @@ module _ (w : State) (job : Job) (k o s : ℕ) (next : next_action w job ≡ Som
   own = pinned_profile (setup_in w).profile job.pinned o
 
   not_allowed : (kind : Kind) → job.kind ≡ kind → IsAllowed (setup_in w).n kind (Fetch k o s)
-  not_allowed kind is = subst (λ (x : Kind). IsAllowed (setup_in w).n x (Fetch k o s)) is
-      (next_allowed w job (Fetch k o s) next)
+  not_allowed kind is = rw is at (next_allowed w job (Fetch k o s) next)
 
   listed : (r : Running) → IsRunning (setup_in w) r job →
       IsTask (setup_in w) job (Fetch k o s ∷ after w job) r.task
-  listed r running =
-      subst (λ (l : List Action). IsTask (setup_in w) job l r.task) (left_is w job k o s next) running.task
+  listed r running = rw (left_is w job k o s next) at running.task
 
   -- behind the first fetch of a stripe a repair has the bench of its object at hand
   at_hand : (phase : Phase) (bench : Bench) → (k ≡ 0 → ⊥) →
       GoesOn (setup_in w).n phase (Fetch k o s ∷ after w job) →
       IsAtHand (setup_in w) job.pinned phase bench → IsBench (setup_in w) own bench
-  at_hand Between bench later order at = absurd (later order.0)
-  at_hand (Opened p t) bench later order at = absurd (later order.0)
   at_hand (Fetching p t c) bench later order at =
       subst (λ (q : ℕ). IsBench (setup_in w) (pinned_profile (setup_in w).profile job.pinned q) bench)
       (sym order.2) at
+  at_hand _ bench later order at = absurd (later order.0)
 
   -- with a bench taken up the benches are of the setup still, and serve what they served
   taken_own : (profile : ℕ) (t u : RepairTask) → TakesUp profile t u →
@@ -92,8 +88,7 @@ module _ (w : State) (job : Job) (k o s : ℕ) (next : next_action w job ≡ Som
         symbols = ap (λ v. length v.items) takes.symbols ∙ none ∙ sym (zero_times u.blocks.size)
             ∙ ap (λ (m : ℕ). m * u.blocks.size) (sym first);
         room_present = subst (λ v. (setup_in w).n ≤ vec_capacity v) (sym takes.present) is.room_present;
-        room_symbols = subst (λ v. (setup_in w).n * 128 ≤ vec_capacity v) (sym takes.symbols)
-            is.room_symbols;
+        room_symbols = subst (λ v. (setup_in w).n * 128 ≤ vec_capacity v) (sym takes.symbols) is.room_symbols;
       }
     where
       zero_times : (m : ℕ) → 0 * m ≡ 0
@@ -127,18 +122,13 @@ module _ (w : State) (job : Job) (k o s : ℕ) (next : next_action w job ≡ Som
       IsTask (setup_in w) job (Fetch k o s ∷ after w job) t → IsTurned u
   first_turned (task.Repair t) (task.Repair u) first turns is =
       got (task.Repair u) (taken_up t u first turns is) (taken_is t u turns is)
-  first_turned (task.Repair t) (task.Put u) first turns is = absurd (let e : ⊥ = cc in e)
-  first_turned (task.Repair t) (task.Stream u) first turns is = absurd (let e : ⊥ = cc in e)
-  first_turned (task.Repair t) (task.Get u) first turns is = absurd (let e : ⊥ = cc in e)
-  first_turned (task.Repair t) task.Drop first turns is = absurd (let e : ⊥ = cc in e)
-  first_turned (task.Repair t) (task.Audit u) first turns is = absurd (let e : ⊥ = cc in e)
-  first_turned (task.Repair t) task.Upgrade first turns is = absurd (let e : ⊥ = cc in e)
   first_turned (task.Put t) u first turns is = absurd (not_allowed (PutJob is.name t.bytes) is.kind)
   first_turned (task.Stream t) u first turns is = absurd (not_allowed (PutJob is.name is.bytes) is.kind)
-  first_turned (task.Get t) u first turns is = subst IsTurned (sym turns) (got (task.Get t) is tt)
+  first_turned (task.Get t) u first turns is = rw (← turns) at (got (task.Get t) is tt)
   first_turned task.Drop u first turns is = absurd (not_allowed (DropJob is.name) is.kind)
   first_turned (task.Audit t) u first turns is = absurd (not_allowed AuditJob is.kind)
   first_turned task.Upgrade u first turns is = absurd (not_allowed UpgradeJob is)
+  first_turned (task.Repair t) _ first turns is = absurd (let e : ⊥ = cc in e)
 
   later_turned : (t : Task) → (k ≡ 0 → ⊥) → IsTask (setup_in w) job (Fetch k o s ∷ after w job) t → IsTurned t
   later_turned (task.Put t) later is = absurd (not_allowed (PutJob is.name t.bytes) is.kind)
@@ -153,9 +143,8 @@ module _ (w : State) (job : Job) (k o s : ℕ) (next : next_action w job ≡ Som
   turned_to : (profile : ℕ) (r m : Running) → IsRunning (setup_in w) r job → profile ≡ own →
       TurnsTo k profile r.task m.task → IsTurned m.task
   turned_to profile r m running is turns = elim (cases_eq k 0) [
-    | inl first ↦ first_turned r.task m.task first
-        (subst (λ (p : ℕ). Turns p r.task m.task) is (turns.first first)) (listed r running)
-    | inr later ↦ subst IsTurned (sym (turns.other later)) (later_turned r.task later (listed r running))
+    | inl first ↦ first_turned r.task m.task first (rw is at (turns.first first)) (listed r running)
+    | inr later ↦ (rw (← (turns.other later)) at (later_turned r.task later (listed r running)))
   ]
 
 module _ (v : Desk) (w : State) (holds : Option Cells) (faults moment number k o s : ℕ) (ps : List Provider)
@@ -183,8 +172,7 @@ module _ (v : Desk) (w : State) (holds : Option Cells) (faults moment number k o
       runs_turned : IsRunning (setup_in w) m coming.job
       runs_turned = record {
         number = same_number ∙ runs.number;
-        task = subst (λ (l : List Action). IsTask (setup_in w) coming.job l m.task)
-            (sym (left_is w coming.job k o s coming.comes)) turned.task;
+        task = rw (← (left_is w coming.job k o s coming.comes)) at turned.task;
       }
 
       -- there is room for the block
@@ -203,9 +191,7 @@ module _ (v : Desk) (w : State) (holds : Option Cells) (faults moment number k o
           let job = coming.job in
           let next_job = advanced_with job (Fetched k o s (given_of found block)) in
           let new : State = record (going_on w next_job) { providers = with_provider w.providers k q } in
-          let seen : p ≡ w.providers k =
-          (let e : Some p ≡ Some (w.providers k) = sym p_is ∙ stands.devices.providers.each k provider_there in
-          cc) in
+          let seen : p ≡ w.providers k = cc (sym p_is ∙ stands.devices.providers.each k provider_there) in
           let call : Fetches (worked_object w job o).profile.size o s (w.providers k) (given_of found block) q =
           subst (λ (x : Provider). Fetches (worked_object w job o).profile.size o s x (given_of found block) q)
           seen
@@ -213,14 +199,15 @@ module _ (v : Desk) (w : State) (holds : Option Cells) (faults moment number k o
           turned.size fetches) in
           let on = runs_on w job k o s coming.comes m r' found block runs_turned number_is takes
           turned.bench in
-          goes_on v v' w new holds faults moment number place ps ps' (Fetch k o s) r r' next_job stands coming
+          goes_on v v' w new holds faults moment number place ps ps' (Fetch k o s) r r' next_job reply.Done
+          stands coming
           (given_of found block, (q, call, refl))
           (record { records = refl; journal = refl; area = refl; switching = refl; doubt = refl; append = refl; faults = refl; barred = refl })
           refl refl
           on at there jobs
           (subst (λ (l : List Provider). Rattle.opening_defs.specs.Opened.AreHanded l new) (sym ps_is)
           (handed_on ps w new k q stands.devices.providers provider_there refl (λ j. refl)))
-          keeps flight fed
+          keeps flight fed tt
           (record {
             wants = comes.wants;
             number_is = number_is ∙ same_number;

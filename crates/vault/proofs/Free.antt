@@ -38,12 +38,10 @@ none_run s [] (j ∷ js) are few = absurd are
 none_run s (c ∷ cs) js are few = absurd (omega (arith, few))
 
 -- and where the machine has none, the core has none
-pub none_kept : (s : Setup) (cs : List CoreJob) (js : List Job) → AllZip (IsJobOf s) cs js → js ≡ []
-    → cs ≡ []
+pub none_kept : (s : Setup) (cs : List CoreJob) (js : List Job) → AllZip (IsJobOf s) cs js → js ≡ [] → cs ≡ []
 none_kept s [] js are none = refl
 none_kept s (c ∷ cs) [] are none = absurd are
-none_kept s (c ∷ cs) (j ∷ js) are none =
-    absurd (let e = ap (λ (l : List Job). length l) none in omega (arith, e))
+none_kept s (c ∷ cs) (j ∷ js) are none = absurd (let e = ap (λ l. length l) none in omega arith)
 
 -- then nothing comes next
 pub none_comes : (c : CoreView) (job : ℕ) → c.barred ≡ false → c.jobs ≡ [] → next_in c job ≡ IsNoJob

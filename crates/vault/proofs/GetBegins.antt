@@ -21,8 +21,7 @@ found-in v d w name stands =
 -- a get of a name that is not in effect is refused for that cause
 pub no-such-name : (w : State) (name : List ℕ) → IsTrue (is_name name) → file_in w name ≡ None →
     first_refusal (name_cause name ∷ causes_of_name w (GetJob name) name) ≡ Some refusal.NoSuchName
-no-such-name w name named none =
-    (let not_there = stored-file w name ∙ ap is_some none in rw (named, not_there) refl)
+no-such-name w name named none = (rw (named, stored-file w name ∙ ap is_some none) refl)
 
 module _ (v : Desk) (d : Devices) (w : State) (moment : ℕ) (stands : DeskStands v d w) (name : List ℕ)
     (file : File) (found : file_in w name ≡ Some file) where
@@ -88,9 +87,8 @@ module _ (v : Desk) (d : Devices) (w : State) (moment : ℕ) (stands : DeskStand
         few = omega (arith, new.few, count_same, no_blocks);
         room_present = subst (λ (k : ℕ). vec_len t.fetched.blocks.present + k ≤ vec_capacity
             t.fetched.blocks.present) count_same new.room_present;
-        room_symbols = subst (λ (k : ℕ). vec_len
-            t.fetched.blocks.symbols + k * t.fetched.blocks.size ≤ vec_capacity t.fetched.blocks.symbols)
-            count_same new.room_symbols;
+        room_symbols = subst (λ (k : ℕ). vec_len t.fetched.blocks.symbols + k * t.fetched.blocks.size ≤
+            vec_capacity t.fetched.blocks.symbols) count_same new.room_symbols;
         room_bytes = subst (λ (k : ℕ). vec_len t.bytes + k ≤ vec_capacity t.bytes)
             (λ i. (same_stripes ∙ sym works_are)
             i * (16 * stripe_symbols (bench_object (sym new.bench_is i)))) new.room_bytes;

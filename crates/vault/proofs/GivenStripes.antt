@@ -1,5 +1,5 @@
 -- A stream is given its next piece.
-use Rattle.vault.proofs.Words.{◌≡◌, ◌⊎◌, ℕ, ◌+◌, ◌-◌, ◌*◌, ◌/◌, ◌<◌, ◌≤◌, Bool, true, false, cond, List, [], ◌∷◌, ◌++◌, take, Option, Some, None, refl, sym, ap, subst, ◌∙◌, inl, inr, arith, length-append, append_assoc, slice_get, slice_set, cases_Bool, cases_eq, eq-eqb, ne_eqb, list_all-append, ∥∥₁_map, div-lt_iff_lt-mul, take-append-add, append-nil, take_all, none-some, get-set_there, profile_of, Object, stripe_symbols, symbols_in, Provider, Setup, is_byte, largest_file, actions_left, AreBytes, Kind, PutJob, GetJob, DropJob, AuditJob, RepairJob, UpgradeJob, aim_of, Job, job_of, with_job, State, setup_in, cond_true, cond_false, number_of, same_value, bench_object, CoreIs, stripe_size, IsGivenLength, FitsGiven, FitsAim, CoreJob, job_in, told_by, told_in, wanted_at, wanted_by, wants_in, Devices, devices, Desk, Running, StreamTask, Task, task_of, hand_of, HasLast, HasAtHand, AreAtHand, IsStreaming, piece_size, TakesPiece, DeskStands, PutEndsIn, HasEnds, IsAtWork, place_in, KeepsAll, stripe_by, IsPiece, HasPieceAt, FitsKind, FitsPiece, IsStream, IsTask, IsRunning, AreRunning, handed_same}
+use Rattle.vault.proofs.Words.{◌≡◌, ◌⊎◌, ℕ, ◌+◌, ◌-◌, ◌*◌, ◌/◌, ◌<◌, ◌≤◌, Bool, true, false, cond, List, [], ◌∷◌, ◌++◌, take, Option, Some, None, refl, sym, ap, subst, ◌∙◌, inl, inr, arith, length-append, append_assoc, slice_get, slice_set, cases_Bool, cases_eq, eq-eqb, ne_eqb, list_all-append, ∥∥₁_map, div-lt_iff_lt-mul, take-append-add, append-nil, take_all, none-some, get-set_there, profile_of, stripe_symbols, symbols_in, Provider, Setup, is_byte, largest_file, actions_left, AreBytes, Kind, PutJob, aim_of, Job, job_of, with_job, State, setup_in, cond_true, cond_false, number_of, same_value, bench_object, CoreIs, stripe_size, IsGivenLength, FitsGiven, FitsAim, CoreJob, job_in, told_by, told_in, wanted_at, wanted_by, wants_in, Devices, devices, Desk, Running, StreamTask, Task, task_of, hand_of, HasLast, HasAtHand, AreAtHand, IsStreaming, piece_size, TakesPiece, DeskStands, PutEndsIn, HasEnds, IsAtWork, place_in, KeepsAll, stripe_by, IsPiece, HasPieceAt, FitsKind, FitsPiece, IsStream, IsTask, IsRunning, AreRunning, handed_same}
 use Rattle.std.proofs.Common.{◌==◌, length}
 use Rattle.std.specs.Prelude.{◌&&◌}
 use Rattle.code_defs.proofs.Profiles.{some_kept}
@@ -27,8 +27,7 @@ some_bytes v d w profile S =
     (let e : 0 < 16 * ((setup_in w).l * (profile_of profile).keep) = omega (arith, some) in e)
 
 -- so many bytes have no more stripes
-fewer_stripes : (c bytes stripe : ℕ) → 0 < c → bytes ≤ (stripe + 1) * c
-    → (bytes + (c - 1)) / c ≤ stripe + 1
+fewer_stripes : (c bytes stripe : ℕ) → 0 < c → bytes ≤ (stripe + 1) * c → (bytes + (c - 1)) / c ≤ stripe + 1
 fewer_stripes c bytes stripe some few =
     let l = (div-lt_iff_lt-mul {k = c} {x = bytes + (c - 1)} {y = stripe + 2} some).1
     (omega (arith, some, few)) in
@@ -87,23 +86,13 @@ waits_runs v d w number stripe S wants = by_job (job_in v.core.jobs number) refl
 pub streaming : (s : Setup) (told : Option ℕ) (stripe : ℕ) (t : Task) (job : Job) → told ≡ Some stripe
     → HasAtHand s told (hand_of t) job → IsStreaming t
 streaming s told stripe (task.Stream t) job is has = tt
-streaming s told stripe (task.Put t) job is has = absurd (none-some stripe (sym has ∙ is))
-streaming s told stripe (task.Get t) job is has = absurd (none-some stripe (sym has ∙ is))
-streaming s told stripe task.Drop job is has = absurd (none-some stripe (sym has ∙ is))
-streaming s told stripe (task.Audit t) job is has = absurd (none-some stripe (sym has ∙ is))
-streaming s told stripe (task.Repair t) job is has = absurd (none-some stripe (sym has ∙ is))
-streaming s told stripe task.Upgrade job is has = absurd (none-some stripe (sym has ∙ is))
+streaming s told stripe _ job is has = absurd (none-some stripe (sym has ∙ is))
 
 -- and its bench has stripes of the size that the core knows
 pub bench_bytes : (s : Setup) (job : Job) (t : Task) → IsStreaming t → IsTask s job (actions_left s job) t
     → piece_size t ≡ stripe_size s job.profile
-bench_bytes s job (task.Stream t) are is = ap (λ (o : Object). 16 * stripe_symbols o) is.bench
-bench_bytes s job (task.Put t) are is = absurd are
-bench_bytes s job (task.Get t) are is = absurd are
-bench_bytes s job task.Drop are is = absurd are
-bench_bytes s job (task.Audit t) are is = absurd are
-bench_bytes s job (task.Repair t) are is = absurd are
-bench_bytes s job task.Upgrade are is = absurd are
+bench_bytes s job (task.Stream t) are is = ap (λ o. 16 * stripe_symbols o) is.bench
+bench_bytes s job _ are is = absurd are
 
 -- ---- the piece
 
@@ -121,11 +110,7 @@ fits_job size stripe piece last job fits = by_kind job.kind refl fits
     by_kind : (kind : Kind) → job.kind ≡ kind → FitsKind size (Some stripe) piece last kind
         → Fits size stripe piece last job
     by_kind (PutJob name bytes) is at = record { name = name; bytes = bytes; kind = is; at = at }
-    by_kind (GetJob name) is at = absurd at
-    by_kind (DropJob name) is at = absurd at
-    by_kind AuditJob is at = absurd at
-    by_kind RepairJob is at = absurd at
-    by_kind UpgradeJob is at = absurd at
+    by_kind _ is at = absurd at
 
 -- a piece is a whole stripe, or no more comes
 whole_or_last : (size stripe : ℕ) (piece : List ℕ) (last : Bool) (bytes : List ℕ)
@@ -168,11 +153,9 @@ pub may_tell : (size stripe total : ℕ) (count : ℕ) (last : Bool) → total �
 may_tell size stripe total count false is piece =
     let a = piece.0 in
     let b = piece.1 in
-    ((let e : total ≡ (stripe + 1) * size = omega (arith, is, a) in e), omega (arith, is, b))
+    ((omega (arith, is, a)), omega arith)
 may_tell size stripe total count true is piece =
-    let a = piece.0 in
-    let b = piece.1 in
-    (omega (arith, is), omega (arith, is, a), omega (arith, is, b))
+    (omega arith, omega (arith, is, piece.0), omega (arith, is, piece.1))
 
 -- ---- what the stream works with
 
@@ -184,12 +167,11 @@ module _ (s : Setup) (job : Job) (stripe : ℕ) (piece : List ℕ) (last : Bool)
   stream_taken t u takes is =
       let o = bench_object t.bench in
       let size : 16 * stripe_symbols o ≡ stripe_size s job.profile =
-      ap (λ (x : Object). 16 * stripe_symbols x) is.bench in
+      ap (λ x. 16 * stripe_symbols x) is.bench in
       let place : length f.at.before ≡ stripe * (16 * stripe_symbols o) =
-      f.at.place_is ∙ ap (λ (x : ℕ). stripe * x) (sym size) in
+      f.at.place_is ∙ ap (λ x. stripe * x) (sym size) in
       let whole : (16 * stripe_symbols o ≤ length piece) ⊎ (f.at.rest ≡ []) =
-      subst (λ (x : ℕ). (x ≤ length piece) ⊎ (f.at.rest ≡ [])) (sym size)
-      (whole_or_last (stripe_size s job.profile) stripe piece last f.bytes is_piece f.at) in
+      rw (← size) at (whole_or_last (stripe_size s job.profile) stripe piece last f.bytes is_piece f.at) in
       record {
         name = f.name;
         bytes = f.bytes;
@@ -199,7 +181,7 @@ module _ (s : Setup) (job : Job) (stripe : ℕ) (piece : List ℕ) (last : Bool)
             let same : stripe ≡ x = (let e : Some stripe ≡ Some x = sym takes.0 ∙ hand in cc) in
             takes.1
             ∙ sym (symbols_of_piece o f.at.before piece f.at.rest stripe place whole)
-            ∙ ap (λ (bytes : List ℕ). symbols_in o bytes stripe) (sym f.at.parts)
+            ∙ ap (λ bytes. symbols_in o bytes stripe) (sym f.at.parts)
             ∙ (λ i. symbols_in (sym takes.2 i) f.bytes (same i));
       }
 
@@ -274,8 +256,7 @@ pub record IsGiven (v v' : Desk) (number stripe : ℕ) (piece : List ℕ) (last 
   pub flight : v'.flight ≡ v.flight
   pub total : ℕ
   pub total_is : total ≡ stripe * stripe_by v.core.setup (job_in v.core.jobs number) + length piece
-  pub stands : (w : State) → CoreIs v.core w → FitsGiven last total (job_of w.jobs number)
-      → CoreIs v'.core w
+  pub stands : (w : State) → CoreIs v.core w → FitsGiven last total (job_of w.jobs number) → CoreIs v'.core w
   pub more : last ≡ false → told_in v'.core.jobs number ≡ Some (stripe + 1)
   pub closed : last ≡ true → told_in v'.core.jobs number ≡ None
   pub others : (m : ℕ) → (m ≡ number → ⊥) → told_in v'.core.jobs m ≡ told_in v.core.jobs m
@@ -295,10 +276,8 @@ module _ (v v' : Desk) (number stripe : ℕ) (piece : List ℕ) (last : Bool)
       (g.total_is ∙ ap (λ (x : ℕ). stripe * x + length piece) wait.size) f)) in
       let at = sym (place_is v.jobs.items number) ∙ g.at in
       let first = found s v.jobs.items w.jobs number job S.jobs runs in
-      let here : first.place ≡ g.place = (let e : Some first.place ≡ Some g.place = sym first.at ∙ at in cc) in
-      let one : first.running ≡ g.old =
-      (let e : Some first.running ≡ Some g.old = sym first.there ∙ ap (slice_get v.jobs.items) here ∙ g.there
-      in cc) in
+      let here : first.place ≡ g.place = cc (sym first.at ∙ at) in
+      let one : first.running ≡ g.old = cc (sym first.there ∙ ap (slice_get v.jobs.items) here ∙ g.there) in
       let running = runs_taken s job stripe piece last f is_piece g.old g.new g.number_is g.takes
       (subst (λ (x : Running). IsRunning s x job) one first.is) in
       let mine : job.number ≡ number = number_of w.jobs number job runs in
@@ -348,13 +327,12 @@ pub given_fitting : (v v' : Desk) (number stripe : ℕ) (piece : List ℕ) (last
 given_fitting v v' number stripe piece last g w d S fits =
     let runs = waits_runs v d w number stripe S g.wants in
     let job = runs.0 in
-    let wait = waiting v d w number stripe job S runs.1 g.wants in
     let size = stripe_by v.core.setup (job_in v.core.jobs number) in
     given_stands v v' number stripe piece last g w d job S runs.1
-    (subst (λ (x : ℕ). Fits x stripe piece last job) wait.size
+    (subst (λ x. Fits x stripe piece last job) (waiting v d w number stripe job S runs.1 g.wants).size
     (fits_job size stripe piece last job
     (subst (FitsPiece size (Some stripe) piece last) runs.1
-    (subst (λ (o : Option ℕ). FitsPiece size o piece last (job_of w.jobs number)) g.wants fits))))
+    (rw g.wants at fits))))
 
 -- ---- what is given later
 
@@ -375,10 +353,9 @@ split : (size stripe : ℕ) (piece rest : List ℕ) (last : Bool) (kind : Kind)
     → IsPiece size (Some stripe) (length piece) last
     → PutEndsIn (stripe * size) (next_rest piece rest last) kind → Split size stripe piece rest last kind
 split size stripe piece rest false (PutJob name bytes) is (before, parts, place) =
-    let count = is.0 in
     let most = is.1 in
     let e : largest_file - stripe * size ≡ length piece + (largest_file - (stripe + 1) * size) =
-    omega (arith, count, most) in
+    omega (arith, is.0, most) in
     record {
       name = name;
       bytes = bytes;
@@ -386,9 +363,8 @@ split size stripe piece rest false (PutJob name bytes) is (before, parts, place)
       at = record {
         before = before;
         rest = take (largest_file - (stripe + 1) * size) rest;
-        parts =
-            parts ∙ ap (λ (n : ℕ). before ++ take n (piece ++ rest)) e
-            ∙ ap (λ (l : List ℕ). before ++ l)
+        parts = parts ∙ ap (λ n. before ++ take n (piece ++ rest)) e
+            ∙ ap (λ l. before ++ l)
             (take-append-add piece rest (largest_file - (stripe + 1) * size));
         place_is = place;
         end = λ e. absurd (Rattle.std.proofs.lemmas.Bool.false≢true e);
@@ -396,7 +372,6 @@ split size stripe piece rest false (PutJob name bytes) is (before, parts, place)
       behind = λ e. refl;
     }
 split size stripe piece rest true (PutJob name bytes) is (before, parts, place) =
-    let most = is.1 in
     record {
       name = name;
       bytes = bytes;
@@ -405,19 +380,14 @@ split size stripe piece rest true (PutJob name bytes) is (before, parts, place) 
         before = before;
         rest = [];
         parts =
-            parts ∙ ap (λ (l : List ℕ). before ++ l)
-            (take_all (largest_file - stripe * size) piece (omega (arith, most))
+            parts ∙ ap (λ l. before ++ l) (take_all (largest_file - stripe * size) piece (omega (arith, is.1))
             ∙ sym (append-nil piece));
         place_is = place;
         end = λ e. refl;
       };
       behind = λ e. absurd (Rattle.std.proofs.lemmas.Bool.false≢true (sym e));
     }
-split size stripe piece rest last (GetJob name) is ends = absurd ends
-split size stripe piece rest last (DropJob name) is ends = absurd ends
-split size stripe piece rest last AuditJob is ends = absurd ends
-split size stripe piece rest last RepairJob is ends = absurd ends
-split size stripe piece rest last UpgradeJob is ends = absurd ends
+split size stripe piece rest last _ is ends = absurd ends
 
 -- and so it ends behind the piece
 ends_behind : (size stripe : ℕ) (piece rest : List ℕ) (kind : Kind)
@@ -471,22 +441,18 @@ module _ (v v' : Desk) (number stripe : ℕ) (piece : List ℕ) (last : Bool)
       let job = runs.0 in
       let wait = waiting v d w number stripe job S runs.1 g.wants in
       let size = stripe_size (setup_in w) job.profile in
-      let is_piece = subst (λ (x : ℕ). IsPiece x (Some stripe) (length piece) last) wait.size g.is_piece in
+      let is_piece = rw wait.size at g.is_piece in
       let x = split size stripe piece (rest number) last job.kind is_piece
-      (subst (λ (l : List ℕ). PutEndsIn (stripe * size) l job.kind) (rest_here number piece last rest)
-      (ends number stripe job wait.told runs.1)) in (
+      (rw (rest_here number piece last rest) at (ends number stripe job wait.told runs.1)) in (
         given_stands v v' number stripe piece last g w d job S runs.1
             (record { name = x.name; bytes = x.bytes; kind = x.kind_is; at = x.at }),
         λ m stripes j told jobs. elim (cases_eq m number) [
           | inl e ↦ (
-              let same : job ≡ j = same_value _ job j runs.1 (ap (job_of w.jobs) (sym e) ∙ jobs) in
-              subst (λ (y : Job). PutEndsIn (stripes * stripe_size (setup_in w) y.profile) (rest m) y.kind)
-              same
-              (subst (λ (k : ℕ). PutEndsIn (stripes * size) (rest k) job.kind) (sym e)
-              (mine w job stripes last refl is_piece x (ap (told_in v'.core.jobs) (sym e) ∙ told))))
-          | inr n ↦ subst (λ (l : List ℕ). PutEndsIn (stripes * stripe_size (setup_in w) j.profile) l j.kind)
-              (rest_other number m piece last rest n)
-              (ends m stripes j (sym (g.others m n) ∙ told) jobs)
+              let same = same_value _ job j runs.1 (ap (job_of w.jobs) (sym e) ∙ jobs) in
+              (rw same at (subst (λ (k : ℕ). PutEndsIn (stripes * size) (rest k) job.kind) (sym e)
+              (mine w job stripes last refl is_piece x (ap (told_in v'.core.jobs) (sym e) ∙ told)))))
+          | inr n ↦ (rw (rest_other number m piece last rest n) at (ends m stripes j
+              (sym (g.others m n) ∙ told) jobs))
         ],
       )
     where
@@ -496,20 +462,16 @@ module _ (v v' : Desk) (number stripe : ℕ) (piece : List ℕ) (last : Bool)
           → told_in v'.core.jobs number ≡ Some stripes
           → PutEndsIn (stripes * stripe_size (setup_in w) job.profile) (rest number) job.kind
       mine w job stripes false is is_piece x told =
-          let same : stripe + 1 ≡ stripes =
-          (let e : Some (stripe + 1) ≡ Some stripes = sym (g.more is) ∙ told in cc) in
-          subst (λ (k : ℕ). PutEndsIn (k * stripe_size (setup_in w) job.profile) (rest number) job.kind) same
+          subst (λ k. PutEndsIn (k * stripe_size (setup_in w) job.profile) (rest number) job.kind)
+          (let e : Some (stripe + 1) ≡ Some stripes = sym (g.more is) ∙ told in cc)
           (ends_behind (stripe_size (setup_in w) job.profile) stripe piece (rest number) job.kind
-          (subst (IsPiece (stripe_size (setup_in w) job.profile) (Some stripe) (length piece)) is is_piece)
-          (subst (λ (b : Bool). Split (stripe_size (setup_in w) job.profile) stripe piece (rest number) b
-          job.kind) is x))
+          (rw is at is_piece) (rw is at x))
       mine w job stripes true is is_piece x told = absurd (none-some stripes (sym (g.closed is) ∙ told))
 
 -- so the desk is at work
 pub given_works : (v v' : Desk) (number stripe : ℕ) (piece : List ℕ) (last : Bool)
     → IsGiven v v' number stripe piece last → AreBytes piece → IsAtWork v → IsAtWork v'
-given_works v v' number stripe piece last g piece_bytes at = λ rest bytes.
-    ∥∥₁_map (at (rest_with number piece last rest)
-    (λ m. rest_bytes number m piece last rest piece_bytes bytes)) (λ x.
+given_works v v' number stripe piece last g piece_bytes at = λ rest bytes. ∥∥₁_map
+    (at (rest_with number piece last rest) (λ m. rest_bytes number m piece last rest piece_bytes bytes)) (λ x.
     let h = given_ends v v' number stripe piece last g piece_bytes rest x.0 x.1 x.2 x.3 x.4 in
     (x.0, x.1, x.2, h.0, h.1))

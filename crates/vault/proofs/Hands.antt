@@ -1,6 +1,6 @@
 -- The stripe at hand of a stream, over begins and steps of jobs.
-use Rattle.vault.proofs.Words.{◌≡◌, ℕ, zero, suc, ◌+◌, ◌*◌, ◌<◌, ◌≤◌, cond, List, [], ◌∷◌, ◌++◌, Option, Some, None, ◌⊎◌, refl, sym, ap, subst, ◌∙◌, inl, inr, arith, slice_get, slice_set, nat_lt, remove, option_map, cases_Bool, eqb-true, eq-eqb, ne_eqb, ltb-true, ltb-false, none-some, get-set_there, Setup, Kind, PutJob, GetJob, DropJob, AuditJob, RepairJob, UpgradeJob, Job, job_of, with_job, without_job, profiled, stripes_of, State, setup_in, cond_true, cond_false, same_value, found_with, found_without, found_more, AreNumbered, numbered-below, CoreIs, CoreJob, CoreView, job_in, told_by, told_in, wanted_at, wanted_by, wants_in, pair_some, Running, Task, task_of, hand_of, IsOn, HasGiven, HasLast, HasAtHand, AreAtHand, KeepsStreams, IsTask, AreRunning}
-use Rattle.std.proofs.Common.{◌==◌, length}
+use Rattle.vault.proofs.Words.{◌≡◌, ℕ, zero, suc, ◌+◌, ◌*◌, ◌<◌, cond, List, [], ◌∷◌, ◌++◌, Option, Some, None, ◌⊎◌, refl, sym, ap, subst, ◌∙◌, inl, inr, arith, slice_get, slice_set, nat_lt, remove, option_map, cases_Bool, eqb-true, eq-eqb, ne_eqb, ltb-true, ltb-false, none-some, get-set_there, Setup, Kind, PutJob, Job, job_of, with_job, without_job, State, setup_in, cond_true, cond_false, same_value, found_with, found_without, found_more, AreNumbered, numbered-below, CoreIs, CoreJob, CoreView, job_in, told_by, told_in, wanted_at, wanted_by, wants_in, pair_some, Running, Task, task_of, hand_of, IsOn, HasGiven, HasLast, HasAtHand, AreAtHand, KeepsStreams, IsTask, AreRunning}
+use Rattle.std.proofs.Common.{◌==◌}
 use Rattle.machine_defs.specs.Actions.{Action}
 use Rattle.vault.specs.declared.tasks.Task.TheVariants as task
 use Rattle.vault.proofs.CoreJobs.{core_of}
@@ -14,10 +14,9 @@ pub number_at : (rs : List Running) (k p : ℕ) (r : Running) → at_number rs k
 number_at [] k p r at there = absurd (none-some p at)
 number_at (x ∷ rs) k p r at there = elim (cases_Bool (x.number == k)) [
   | inl t ↦ (
-      let here : 0 ≡ p = same_value _ 0 p
-      (cond_true (x.number == k) (Some 0) (option_map suc (at_number rs k)) t) at in
-      let same : x ≡ r = same_value _ x r (ap (slice_get (x ∷ rs)) (sym here)) there in
-      subst (λ (y : Running). y.number ≡ k) same (eqb-true x.number k t))
+      let same = same_value _ x r (ap (slice_get (x ∷ rs)) (sym (same_value _ 0 p
+      (cond_true (x.number == k) (Some 0) (option_map suc (at_number rs k)) t) at))) there in
+      (rw same at (eqb-true x.number k t)))
   | inr f ↦ (
       let behind = before (at_number rs k) p
       (sym (cond_false (x.number == k) (Some 0) (option_map suc (at_number rs k)) f) ∙ at) in
@@ -30,10 +29,9 @@ pub task_at : (rs : List Running) (k p : ℕ) (r : Running) → at_number rs k �
 task_at [] k p r at there = absurd (none-some p at)
 task_at (x ∷ rs) k p r at there = elim (cases_Bool (x.number == k)) [
   | inl t ↦ (
-      let here : 0 ≡ p = same_value _ 0 p
-      (cond_true (x.number == k) (Some 0) (option_map suc (at_number rs k)) t) at in
-      let same : x ≡ r = same_value _ x r (ap (slice_get (x ∷ rs)) (sym here)) there in
-      cond_true (x.number == k) (Some x.task) (task_of rs k) t ∙ ap (λ (y : Running). Some y.task) same)
+      let same = same_value _ x r (ap (slice_get (x ∷ rs)) (sym (same_value _ 0 p
+      (cond_true (x.number == k) (Some 0) (option_map suc (at_number rs k)) t) at))) there in
+      cond_true (x.number == k) (Some x.task) (task_of rs k) t ∙ ap (λ y. Some y.task) same)
   | inr f ↦ (
       let behind = before (at_number rs k) p
       (sym (cond_false (x.number == k) (Some 0) (option_map suc (at_number rs k)) f) ∙ at) in
@@ -92,22 +90,16 @@ task_there s rs js k j are runs none =
 task_none : (s : Setup) (rs : List Running) (js : List Job) (k : ℕ) (t : Task) → AreRunning s rs js
     → task_of rs k ≡ Some t → (j : Job) × (job_of js k ≡ Some j)
 task_none s [] [] k t are is = absurd (none-some t is)
-task_none s [] (j ∷ js) k t are is = absurd are
-task_none s (r ∷ rs) [] k t are is = absurd are
 task_none s (r ∷ rs) (j ∷ js) k t are is = elim (cases_Bool (r.number == k)) [
-  | inl y ↦ (
-    j,
-    cond_true (j.number == k) (Some j) (job_of js k)
-        (ap (λ (n : ℕ). n == k) (sym are.0.number) ∙ y),
-  )
+  | inl y ↦ (j, cond_true (j.number == k) (Some j) (job_of js k) (ap (λ n. n == k) (sym are.0.number) ∙ y))
   | inr n ↦ (
       let more = task_none s rs js k t are.1
       (sym (cond_false (r.number == k) (Some r.task) (task_of rs k) n) ∙ is) in (
         more.0,
-        cond_false (j.number == k) (Some j) (job_of js k)
-            (ap (λ (m : ℕ). m == k) (sym are.0.number) ∙ n) ∙ more.1,
+        cond_false (j.number == k) (Some j) (job_of js k) (ap (λ m. m == k) (sym are.0.number) ∙ n) ∙ more.1,
       ))
 ]
+task_none s _ _ k t are is = absurd are
 
 -- ---- what a core was told
 
@@ -152,18 +144,16 @@ told_below c w k stripes is told =
 -- ---- one job
 
 -- an open stream that does not wait is before the place where it does
-pub before_wait : (s : Setup) (stripes : ℕ) (hand : Option ℕ) (job : Job)
-    → wanted_at s job.place (Some stripes) ≡ None → HasGiven s stripes hand job
-    → job.place < 4 + stripes * s.n
+pub before_wait : (s : Setup) (stripes : ℕ) (hand : Option ℕ) (job : Job) →
+    wanted_at s job.place (Some stripes) ≡ None → HasGiven s stripes hand job → job.place < 4 + stripes * s.n
 before_wait s stripes hand job wants is = elim (cases_Bool (nat_lt job.place (4 + stripes * s.n))) [
   | inl t ↦ ltb-true job.place (4 + stripes * s.n) t
   | inr f ↦ (
       let most = ltb-false job.place (4 + stripes * s.n) f in
       let least = is.within in
-      let same : job.place ≡ 4 + stripes * s.n = omega (arith, most, least) in
       absurd (none-some stripes (sym wants
       ∙ cond_true (job.place == 4 + stripes * s.n) (Some stripes) None
-      (eq-eqb job.place (4 + stripes * s.n) same))))
+      (eq-eqb job.place (4 + stripes * s.n) (omega (arith, most, least))))))
 ]
 
 -- a stream that does not wait goes on with what it has at hand
@@ -176,13 +166,9 @@ module _ (s : Setup) (job next : Job) (place : next.place ≡ job.place + 1) (ki
   last_on hand (PutJob name bytes) (stripe, on, few) = (
     stripe,
     on_further stripe hand on,
-    subst (λ (p : ℕ). stripes_of (profiled s p) (length bytes) ≤ stripe + 1) (sym profile) few,
+    (rw (← profile) at few),
   )
-  last_on hand (GetJob name) is = absurd is
-  last_on hand (DropJob name) is = absurd is
-  last_on hand AuditJob is = absurd is
-  last_on hand RepairJob is = absurd is
-  last_on hand UpgradeJob is = absurd is
+  last_on hand _ is = absurd is
 
   given_on : (stripes : ℕ) (hand : Option ℕ) → wanted_at s job.place (Some stripes) ≡ None
       → HasGiven s stripes hand job → HasGiven s stripes hand next
@@ -194,30 +180,22 @@ module _ (s : Setup) (job next : Job) (place : next.place ≡ job.place + 1) (ki
   pub hand_on : (told : Option ℕ) (hand : Option (Option ℕ)) → wanted_at s job.place told ≡ None
       → HasAtHand s told hand job → HasAtHand s told hand next
   hand_on told None wants is = is
-  hand_on None (Some hand) wants is =
-      subst (HasLast s hand next) (sym kind) (last_on hand job.kind is)
+  hand_on None (Some hand) wants is = subst (HasLast s hand next) (sym kind) (last_on hand job.kind is)
   hand_on (Some stripes) (Some hand) wants is = given_on stripes hand wants is
 
 -- a job that is no put has no stripe at hand
 pub no_hand : (s : Setup) (job : Job) (rest : List Action) (t : Task)
     → ((name bytes : List ℕ) → job.kind ≡ PutJob name bytes → ⊥) → IsTask s job rest t → hand_of t ≡ None
-no_hand s job rest (task.Put t) other is = refl
 no_hand s job rest (task.Stream t) other is = absurd (other is.name is.bytes is.kind)
-no_hand s job rest (task.Get t) other is = refl
-no_hand s job rest task.Drop other is = refl
-no_hand s job rest (task.Audit t) other is = refl
-no_hand s job rest (task.Repair t) other is = refl
-no_hand s job rest task.Upgrade other is = refl
+no_hand s job rest _ other is = refl
 
 -- ---- all jobs
 
 -- what is at hand, read of another number, task and job
 moved : (s : Setup) (a b : Option ℕ) (t u : Task) (i j : Job) → a ≡ b → t ≡ u → i ≡ j
     → HasAtHand s a (hand_of t) i → HasAtHand s b (hand_of u) j
-moved s a b t u i j told same job is =
-    subst (λ (x : Job). HasAtHand s b (hand_of u) x) job
-    (subst (λ (x : Task). HasAtHand s b (hand_of x) i) same
-    (subst (λ (x : Option ℕ). HasAtHand s x (hand_of t) i) told is))
+moved s a b t u i j told same job is = subst (λ x. HasAtHand s b (hand_of u) x) job
+    (rw same at (subst (λ (x : Option ℕ). HasAtHand s x (hand_of t) i) told is))
 
 module _ (s : Setup) (c c' : CoreView) (rs : List Running) (js : List Job)
     (are : AreAtHand s c.jobs rs js) (new : State) (core : CoreIs c' new) (keeps : KeepsStreams c c') where
@@ -230,20 +208,19 @@ module _ (s : Setup) (c c' : CoreView) (rs : List Running) (js : List Job)
       → new.jobs ≡ with_job js j' → AreAtHand s c'.jobs (slice_set rs p r') new.jobs
   hands_with k p r r' j j' at there number runs mine goes at_same jobs m t job tasks runs' =
       let told = told_same c c' new m job core keeps runs' in
-      elim (found_with js j' m job (ap (λ (l : List Job). job_of l m) (sym jobs) ∙ runs')) [
+      elim (found_with js j' m job (ap (λ l. job_of l m) (sym jobs) ∙ runs')) [
         | inl h ↦ (
             let m_is : m ≡ k = h.0 ∙ mine in
-            let old = task_at rs k p r at there in
-            let now = task_at (slice_set rs p r') k p r' (at_same ∙ at) (get-set_there rs p r r' there) in
             moved s (told_in c.jobs k) (told_in c'.jobs m) r'.task t j' job
             (ap (told_in c.jobs) (sym m_is) ∙ sym told)
-            (same_value _ r'.task t now (ap (task_of (slice_set rs p r')) (sym m_is) ∙ tasks)) (sym h.1)
-            (goes (are k r.task j old runs)))
+            (same_value _ r'.task t (task_at (slice_set rs p r') k p r' (at_same ∙ at)
+            (get-set_there rs p r r' there)) (ap (task_of (slice_set rs p r')) (sym m_is) ∙ tasks))
+            (sym h.1)
+            (goes (are k r.task j (task_at rs k p r at there) runs)))
         | inr h ↦ (
-            let other : r.number ≡ m → ⊥ =
-            (λ e. h.0 (sym e ∙ number_at rs k p r at there ∙ sym mine)) in
             moved s (told_in c.jobs m) (told_in c'.jobs m) t t job job (sym told) refl refl
-            (are m t job (sym (task_set rs p m r r' there number other) ∙ tasks) h.1))
+            (are m t job (sym (task_set rs p m r r' there number (λ e. h.0
+            (sym e ∙ number_at rs k p r at there ∙ sym mine))) ∙ tasks) h.1))
       ]
 
   -- one of them ends

@@ -17,10 +17,9 @@ length-fetched_entries job object n place (block ∷ blocks) =
 -- there are as many entries as asks with an answer
 pub length-answered_entries : (job : ℕ) (asks : List Ask) (symbols : List (Option ℕ)) →
     length (answered_entries job asks symbols) ≡ min (length asks) (length symbols)
-length-answered_entries job [] symbols = omega arith
-length-answered_entries job (a ∷ asks) [] = omega arith
 length-answered_entries job (a ∷ asks) (symbol ∷ symbols) =
-    let e = length-answered_entries job asks symbols in omega (arith, e)
+    omega (arith, length-answered_entries job asks symbols)
+length-answered_entries job _ _ = omega arith
 
 -- ---- the entry at a place
 
@@ -62,14 +61,12 @@ pub entries_more : (job object n place : ℕ) (blocks : List (Option (List ℕ))
     fetched_entries job object n place (blocks ++ block ∷ [])
     ≡ fetched_entries job object n place blocks
     ++ fetched_entry job object n (place + length blocks) block ∷ []
-entries_more job object n place [] block =
-    ap (λ (m : ℕ). fetched_entry job object n m block ∷ []) (let e : place ≡ place + 0 = omega arith in e)
+entries_more job object n place [] block = ap (λ m. fetched_entry job object n m block ∷ []) (omega arith)
 entries_more job object n place (b ∷ blocks) block =
-    ap (λ (l : List Entry). fetched_entry job object n place b ∷ l)
-    (entries_more job object n (place + 1) blocks block
-    ∙ ap (λ (m : ℕ). fetched_entries job object n (place + 1) blocks
+    ap (λ l. fetched_entry job object n place b ∷ l) (entries_more job object n (place + 1) blocks block
+    ∙ ap (λ m. fetched_entries job object n (place + 1) blocks
     ++ fetched_entry job object n m block ∷ [])
-    (let e : place + 1 + length blocks ≡ place + length (b ∷ blocks) = omega arith in e))
+    (omega arith))
 
 -- behind some stripes and k fetches the next fetch is of this stripe, from provider k
 pub entry_next : (job object n stripes k place : ℕ) (block : Option (List ℕ)) →

@@ -11,15 +11,13 @@ module _ (v : Desk) (w : State) (d : Devices) (moment number : ℕ) (stands : De
   -- where a vault is open, a step is one of a job or is barred
   opened : (outcome : Outcome) → StepsOpen w number w.is_barred outcome w →
       Happens 8 moment w (Step number) outcome w
-  opened outcome steps =
-      subst (λ (b : Bool). Steps w number b outcome w) (sym stands.core.is_open) steps
+  opened outcome steps = subst (λ (b : Bool). Steps w number b outcome w) (sym stands.core.is_open) steps
 
   -- where no disk call failed, it is one of a job
   unbarred : (outcome : Outcome) → w.is_barred ≡ false → StepsJob w (job_of w.jobs number) outcome w
       → Happens 8 moment w (Step number) outcome w
   unbarred outcome free steps =
-      opened outcome
-      (subst (λ (b : Bool). StepsOpen w number b outcome w) (sym free)
+      opened outcome (subst (λ (b : Bool). StepsOpen w number b outcome w) (sym free)
       (subst (λ (o : Option Alone). StepsOne w number o outcome w) (sym stands.core.none_alone) steps))
 
   -- a job waits for the append of another
@@ -27,11 +25,9 @@ module _ (v : Desk) (w : State) (d : Devices) (moment number : ℕ) (stands : De
       → DeskMakesStep w moment number (turn.Waiting holder) v d d
   step-waits holder (action, next) = record {
     state = w;
-    happens =
-        unbarred (events.Waiting holder) next.unbarred
-        (subst (λ (o : Option Job). StepsJob w o (events.Waiting holder) w) (sym next.runs)
-        (subst (λ (o : Option Action). StepsOn w next.job o (events.Waiting holder) w) (sym next.comes)
-        (subst (λ (h : Option ℕ). ActsOrWaits w next.job action h (events.Waiting holder) w) (sym next.holder)
+    happens = unbarred (events.Waiting holder) next.unbarred (subst (λ o. StepsJob w o (events.Waiting holder)
+        w) (sym next.runs) (subst (λ o. StepsOn w next.job o (events.Waiting holder) w) (sym next.comes)
+        (subst (λ h. ActsOrWaits w next.job action h (events.Waiting holder) w) (sym next.holder)
         (refl, refl))));
     stands = stands;
     heard = tt;
@@ -44,8 +40,7 @@ module _ (v : Desk) (w : State) (d : Devices) (moment number : ℕ) (stands : De
       → DeskMakesStep w moment number turn.NoSuchJob v d d
   step-unknown (free, none) = record {
     state = w;
-    happens =
-        unbarred (events.Refused refusal.NoSuchJob) free
+    happens = unbarred (events.Refused refusal.NoSuchJob) free
         (subst (λ (o : Option Job). StepsJob w o (events.Refused refusal.NoSuchJob) w) (sym none) refl);
     stands = stands;
     heard = tt;
@@ -57,8 +52,7 @@ module _ (v : Desk) (w : State) (d : Devices) (moment number : ℕ) (stands : De
   pub step-barred : w.is_barred ≡ true → DeskMakesStep w moment number turn.MustReopen v d d
   step-barred barred = record {
     state = w;
-    happens =
-        opened (events.Refused refusal.MustReopen)
+    happens = opened (events.Refused refusal.MustReopen)
         (subst (λ (b : Bool). StepsOpen w number b (events.Refused refusal.MustReopen) w) (sym barred) refl);
     stands = stands;
     heard = tt;

@@ -36,9 +36,8 @@ place_is rs k = position_from-zero (λ (r : Running). r.number == k) rs ∙ from
 
 -- a place that was found is one of the list
 pub place_within : (rs : List Running) (k place : ℕ) → place_in rs k ≡ Some place → place < length rs
-place_within [] k place found = (let e : None ≡ Some place = found in cc)
-place_within (r ∷ rs) k place found =
-    (position-Some (λ (q : Running). q.number == k) (r ∷ rs) place r found).0
+place_within [] k place found = (cc found)
+place_within (r ∷ rs) k place found = (position-Some (λ q. q.number == k) (r ∷ rs) place r found).0
 
 -- ---- a running job and what it works with
 
@@ -63,24 +62,22 @@ further s r rs k j other f = record {
 -- a job of the machine runs in the vault, at the place of its number
 pub found : (s : Setup) (rs : List Running) (js : List Job) (k : ℕ) (j : Job) → AreRunning s rs js →
     job_of js k ≡ Some j → Found s rs k j
-found s [] [] k j are runs = (let e : None ≡ Some j = runs in cc)
-found s [] (x ∷ js) k j are runs = absurd are
-found s (r ∷ rs) [] k j are runs = absurd are
+found s [] [] k j are runs = (cc runs)
 found s (r ∷ rs) (x ∷ js) k j are runs = elim (cases_Bool (x.number == k)) [
   | inl t ↦ (
-      let same : x ≡ j = same_value _ x j (cond_true _ (Some x) (job_of js k) t) runs in
-      let mine : (r.number == k) ≡ true = ap (λ (n : ℕ). n == k) are.0.number ∙ t in
       record {
         place = 0;
         running = r;
-        at = cond_true (r.number == k) (Some 0) (option_map suc (at_number rs k)) mine;
+        at = cond_true (r.number == k) (Some 0) (option_map suc (at_number rs k))
+            (ap (λ (n : ℕ). n == k) are.0.number ∙ t);
         there = refl;
-        is = subst (λ (y : Job). IsRunning s r y) same are.0;
+        is = subst (λ y. IsRunning s r y) (same_value _ x j (cond_true _ (Some x) (job_of js k) t) runs) are.0;
       })
   | inr f ↦ (
-      let other : (r.number == k) ≡ false = ap (λ (n : ℕ). n == k) are.0.number ∙ f in
-      further s r rs k j other (found s rs js k j are.1 (sym (cond_false _ (Some x) (job_of js k) f) ∙ runs)))
+      further s r rs k j (ap (λ (n : ℕ). n == k) are.0.number ∙ f) (found s rs js k j are.1
+      (sym (cond_false _ (Some x) (job_of js k) f) ∙ runs)))
 ]
+found s _ _ k j are runs = absurd are
 
 -- ---- after a step of it
 
@@ -97,8 +94,6 @@ module _ (s : Setup) (k : ℕ) (new : Running) (job : Job) (is : IsRunning s new
   pub put_back : (rs : List Running) (js : List Job) (p : ℕ) → AreRunning s rs js → at_number rs k ≡ Some p →
       AreRunning s (slice_set rs p new) (with_job js job)
   put_back [] [] p are at = none_at_none p at
-  put_back [] (x ∷ js) p are at = absurd are
-  put_back (r ∷ rs) [] p are at = absurd are
   put_back (r ∷ rs) (x ∷ js) p are at = elim (cases_Bool (r.number == k)) [
     | inl t ↦ (
         let here : 0 ≡ p = same_value _ 0 p
@@ -117,6 +112,7 @@ module _ (s : Setup) (k : ℕ) (new : Running) (job : Job) (is : IsRunning s new
         (sym (cond_false (x.number == job.number) (job ∷ js) (x ∷ with_job js job) other))
         (are.0, put_back rs js behind.0 are.1 behind.1)))
   ]
+  put_back _ _ p are at = absurd are
 
 -- ---- after its end
 
@@ -124,8 +120,6 @@ module _ (s : Setup) (k : ℕ) (new : Running) (job : Job) (is : IsRunning s new
 pub taken_out : (s : Setup) (rs : List Running) (js : List Job) (low next k p : ℕ) → AreNumbered low js next →
     AreRunning s rs js → at_number rs k ≡ Some p → AreRunning s (remove rs p) (without_job js k)
 taken_out s [] [] low next k p numbered are at = none_at_none p at
-taken_out s [] (x ∷ js) low next k p numbered are at = absurd are
-taken_out s (r ∷ rs) [] low next k p numbered are at = absurd are
 taken_out s (r ∷ rs) (x ∷ js) low next k p numbered are at = elim (cases_Bool (r.number == k)) [
   | inl t ↦ (
       let here : 0 ≡ p = same_value _ 0 p
@@ -144,6 +138,7 @@ taken_out s (r ∷ rs) (x ∷ js) low next k p numbered are at = elim (cases_Boo
       (sym (cond_false (x.number == k) (without_job js k) (x ∷ without_job js k) other))
       (are.0, taken_out s rs js (x.number + 1) next k behind.0 numbered.1 are.1 behind.1)))
 ]
+taken_out s _ _ low next k p numbered are at = absurd are
 
 -- ---- what stands at a place
 
@@ -152,11 +147,10 @@ pub at_set : (rs : List Running) (k p : ℕ) (r r' : Running) → slice_get rs p
     at_number (slice_set rs p r') k ≡ at_number rs k
 at_set [] k p r r' there same = refl
 at_set (x ∷ rs) k zero r r' there same =
-    let number : r'.number ≡ x.number = same
-    ∙ (let e : Some x ≡ Some r = there in let f : x ≡ r = cc in ap (λ (y : Running). y.number) (sym f)) in
-    ap (λ (n : ℕ). cond (n == k) (Some 0) (option_map suc (at_number rs k))) number
+    ap (λ n. cond (n == k) (Some 0) (option_map suc (at_number rs k))) (same
+    ∙ (let e : Some x ≡ Some r = there in let f : x ≡ r = cc in ap (λ (y : Running). y.number) (sym f)))
 at_set (x ∷ rs) k (suc p) r r' there same =
-    ap (λ (o : Option ℕ). cond (x.number == k) (Some 0) (option_map suc o)) (at_set rs k p r r' there same)
+    ap (λ o. cond (x.number == k) (Some 0) (option_map suc o)) (at_set rs k p r r' there same)
 
 -- a place that was found is there
 pub item_at : (rs : List Running) (k p : ℕ) (r : Running) → place_in rs k ≡ Some p → r ≡ get_or rs p r →

@@ -1,5 +1,5 @@
 -- The benches of a job: the object of each, and one for each profile of a repair's files.
-use Rattle.vault.proofs.Words.{◌≡◌, ◌⊎◌, inl, inr, ℕ, zero, suc, ◌+◌, ◌<◌, Bool, true, false, List, [], ◌∷◌, ◌++◌, drop, get_or, None, Some, refl, sym, ap, subst, ◌∙◌, arith, slice_get, slice_set, position, list_any, position_from, cases_Bool, eq-eqb, eqb-true, position_from-zero, list_any-append, position-Some, none-some, same_Some, Each, each_get, Profile, profile_of, Object, Setup, File, profiled, object_of, cond_true, cond_false, Bench, bench_object, turned, IsBench, Desk, is_sized, is_served, IsOfDesk, AreOfDesk, AreServed, IsSwapped, Phase, Between, Fetching, Opened, AreOfSetup, OneHas, HasBenchFor, IsAtHand}
+use Rattle.vault.proofs.Words.{◌≡◌, ◌⊎◌, inl, inr, ℕ, zero, suc, ◌+◌, ◌<◌, Bool, true, false, List, [], ◌∷◌, ◌++◌, drop, get_or, None, Some, refl, sym, ap, subst, ◌∙◌, arith, slice_get, slice_set, position, list_any, position_from, cases_Bool, eq-eqb, eqb-true, position_from-zero, list_any-append, position-Some, none-some, same_Some, Each, each_get, Profile, profile_of, Object, Setup, File, profiled, object_of, cond_true, cond_false, Bench, bench_object, turned, IsBench, Desk, is_sized, is_served, IsOfDesk, AreOfDesk, AreServed, IsSwapped, Phase, Between, AreOfSetup, OneHas, HasBenchFor, IsAtHand}
 use Rattle.std.proofs.Common.{length}
 use Rattle.std.specs.Prelude.{◌||◌}
 use Rattle.std.proofs.Math.Bool.{or-true}
@@ -15,8 +15,7 @@ turned_is s profile bench o is = ap (λ (x : Object). record x { id = o }) is
 -- a bench that was turned is one of the setup
 pub bench_after : (s : Setup) (profile : ℕ) (bench bench' : Bench) (o : ℕ) → IsBench s profile bench →
     bench_object bench' ≡ turned bench o → IsBench s profile bench'
-bench_after s profile bench bench' o is turned_to =
-    turned_to ∙ turned_is s profile bench o is
+bench_after s profile bench bench' o is turned_to = turned_to ∙ turned_is s profile bench o is
     ∙ ap (object_of (profiled s profile)) (sym (ap (λ (x : Object). x.id) turned_to))
 
 -- it has the setup's providers
@@ -32,30 +31,14 @@ bench_size s profile bench is = ap (λ (x : Object). x.profile.size) is
 -- profiles whose blocks have one size are one
 pub same_size : (p q : ℕ) → (profile_of p).size ≡ (profile_of q).size → profile_of p ≡ profile_of q
 same_size zero zero e = refl
-same_size zero (suc zero) e = absurd (omega (arith, e))
-same_size zero (suc (suc zero)) e = absurd (omega (arith, e))
-same_size zero (suc (suc (suc zero))) e = absurd (omega (arith, e))
-same_size zero (suc (suc (suc (suc m)))) e = absurd (omega (arith, e))
-same_size (suc zero) zero e = absurd (omega (arith, e))
 same_size (suc zero) (suc zero) e = refl
-same_size (suc zero) (suc (suc zero)) e = absurd (omega (arith, e))
-same_size (suc zero) (suc (suc (suc zero))) e = absurd (omega (arith, e))
-same_size (suc zero) (suc (suc (suc (suc m)))) e = absurd (omega (arith, e))
-same_size (suc (suc zero)) zero e = absurd (omega (arith, e))
-same_size (suc (suc zero)) (suc zero) e = absurd (omega (arith, e))
 same_size (suc (suc zero)) (suc (suc zero)) e = refl
-same_size (suc (suc zero)) (suc (suc (suc zero))) e = absurd (omega (arith, e))
-same_size (suc (suc zero)) (suc (suc (suc (suc m)))) e = absurd (omega (arith, e))
-same_size (suc (suc (suc zero))) zero e = absurd (omega (arith, e))
-same_size (suc (suc (suc zero))) (suc zero) e = absurd (omega (arith, e))
-same_size (suc (suc (suc zero))) (suc (suc zero)) e = absurd (omega (arith, e))
 same_size (suc (suc (suc zero))) (suc (suc (suc zero))) e = refl
-same_size (suc (suc (suc zero))) (suc (suc (suc (suc m)))) e = absurd (omega (arith, e))
-same_size (suc (suc (suc (suc n)))) zero e = absurd (omega (arith, e))
-same_size (suc (suc (suc (suc n)))) (suc zero) e = absurd (omega (arith, e))
-same_size (suc (suc (suc (suc n)))) (suc (suc zero)) e = absurd (omega (arith, e))
-same_size (suc (suc (suc (suc n)))) (suc (suc (suc zero))) e = absurd (omega (arith, e))
 same_size (suc (suc (suc (suc n)))) (suc (suc (suc (suc m)))) e = refl
+same_size zero (suc (suc (suc (suc m)))) e = absurd (omega (arith, e))
+same_size (suc zero) (suc (suc (suc (suc m)))) e = absurd (omega (arith, e))
+same_size (suc (suc zero)) (suc (suc (suc (suc m)))) e = absurd (omega (arith, e))
+same_size _ _ e = absurd (omega (arith, e))
 
 abbrev object_at : Setup → ℕ → Profile → Object
 object_at s id x =
@@ -89,26 +72,23 @@ serves_after s p b b' bs o (inr r) turned_to = inr r
 pub at_hand_after : (s : Setup) (pinned : List Pinned) (phase : Phase) (b b' : Bench) (o : ℕ) →
     IsAtHand s pinned phase b → bench_object b' ≡ turned b o → IsAtHand s pinned phase b'
 at_hand_after s pinned Between b b' o at turned_to = tt
-at_hand_after s pinned (Fetching p t c) b b' o at turned_to = bench_after s _ b b' o at turned_to
-at_hand_after s pinned (Opened p t) b b' o at turned_to = bench_after s _ b b' o at turned_to
+at_hand_after s pinned _ b b' o at turned_to = bench_after s _ b b' o at turned_to
 
 -- a profile that is served is found by the size of its blocks
 pub served : (s : Setup) (p : ℕ) (benches : List Bench) → HasBenchFor s p benches → is_served p benches ≡ true
 served s p [] h = absurd h
 served s p (b ∷ bs) (inl h) =
     ap (λ (t : Bool). t || list_any (is_sized (profile_of p).size) bs) (eq-eqb _ _ (bench_size s p b h))
-served s p (b ∷ bs) (inr r) =
-    ap (λ (t : Bool). is_sized (profile_of p).size b || t) (served s p bs r)
+served s p (b ∷ bs) (inr r) = ap (λ (t : Bool). is_sized (profile_of p).size b || t) (served s p bs r)
     ∙ or-true (is_sized (profile_of p).size b)
 
 -- and the other way round
 pub serves : (s : Setup) (p : ℕ) (benches : List Bench) → AreOfSetup s benches → is_served p benches ≡ true →
     HasBenchFor s p benches
-serves s p [] are h = absurd (let e : false ≡ true = h in cc)
+serves s p [] are h = absurd (cc h)
 serves s p (b ∷ bs) are h = elim (cases_Bool (is_sized (profile_of p).size b)) [
   | inl t ↦ inl (by_size s p are.0.0 b are.0.1 (eqb-true _ _ t))
-  | inr f ↦ inr (serves s p bs are.1
-      (sym (ap (λ (t : Bool). t || list_any (is_sized (profile_of p).size) bs) f) ∙ h))
+  | inr f ↦ inr (serves s p bs are.1 (sym (ap (λ t. t || list_any (is_sized (profile_of p).size) bs) f) ∙ h))
 ]
 
 -- ---- one of them taken up
@@ -158,8 +138,7 @@ serves_swapped s p b bs b' bs' swapped (inr r) =
 
 -- ---- the place of one
 
-none_from : (p : Bench → Bool) (i : ℕ) (bs : List Bench) → position_from p i bs ≡ None →
-    list_any p bs ≡ false
+none_from : (p : Bench → Bool) (i : ℕ) (bs : List Bench) → position_from p i bs ≡ None → list_any p bs ≡ false
 none_from p i [] none = refl
 none_from p i (b ∷ bs) none = elim (cases_Bool (p b)) [
   | inl t ↦ absurd (let e : Some i ≡ None = sym (cond_true (p b) (Some i) (position_from p (i + 1) bs) t)
@@ -196,8 +175,7 @@ none_own size own bs none h = elim (cases_Bool (is_sized size own)) [
 -- a bench behind others serves its own profile
 pub served_last : (p : ℕ) (own : Bench) (bs : List Bench) (b : Bench) →
     b.keys.file.profile.size ≡ (profile_of p).size → is_served p (own ∷ (bs ++ b ∷ [])) ≡ true
-served_last p own bs b size =
-    list_any-append (is_sized (profile_of p).size) (own ∷ bs) (b ∷ [])
+served_last p own bs b size = list_any-append (is_sized (profile_of p).size) (own ∷ bs) (b ∷ [])
     ∙ ap (λ (t : Bool). list_any (is_sized (profile_of p).size) (own ∷ bs) || t) last
     ∙ or-true (list_any (is_sized (profile_of p).size) (own ∷ bs))
   where
@@ -207,8 +185,7 @@ served_last p own bs b size =
 -- and the others serve what they served
 pub served_more : (p : ℕ) (own : Bench) (bs more : List Bench) → is_served p (own ∷ bs) ≡ true →
     is_served p (own ∷ (bs ++ more)) ≡ true
-served_more p own bs more h =
-    list_any-append (is_sized (profile_of p).size) (own ∷ bs) more
+served_more p own bs more h = list_any-append (is_sized (profile_of p).size) (own ∷ bs) more
     ∙ ap (λ (t : Bool). t || list_any (is_sized (profile_of p).size) more) h
 
 -- one more of a desk
@@ -228,8 +205,5 @@ pub one_served_more : (files : List File) (k : ℕ) (f : File) (benches : List B
     Some f ≡ slice_get files k → is_served f.profile benches ≡ true → AreServed (drop (suc k) files) benches →
     AreServed (drop k files) benches
 one_served_more [] k f benches there own all = absurd (none-some f (sym there))
-one_served_more (g ∷ fs) zero f benches there own all = (
-  subst (λ (x : File). is_served x.profile benches ≡ true) (same_Some f g there) own,
-  all,
-)
+one_served_more (g ∷ fs) zero f benches there own all = ((rw (same_Some f g there) at own), all)
 one_served_more (g ∷ fs) (suc k) f benches there own all = one_served_more fs k f benches there own all

@@ -23,8 +23,7 @@ pub cells_torn : (v : Desk) (n : ℕ) (entry : Record) (a : Append) (old new : O
     IsAppendOf v n entry a → Goes (MayTear (moves_of a) (gate_of a) (body_of a)) old new
     → Goes (MayTear n (v.core.end - 1) (spelling entry ++ 0 ∷ [])) old new
 cells_torn v n entry a old new of is =
-    subst (λ (m : ℕ). Goes (MayTear m (v.core.end - 1) (spelling entry ++ 0 ∷ [])) old new) of.moves
-    (subst (λ (g : ℕ). Goes (MayTear (moves_of a) g (spelling entry ++ 0 ∷ [])) old new) of.gate
+    rw of.moves at (subst (λ (g : ℕ). Goes (MayTear (moves_of a) g (spelling entry ++ 0 ∷ [])) old new) of.gate
     (subst (λ (b : List ℕ). Goes (MayTear (moves_of a) (gate_of a) b) old new) of.body is))
 
 -- where a job was ended
@@ -37,17 +36,14 @@ cells_stopped v1 v2 job n gate body reply answer t old new stopped ends =
 
 -- the append at a move of a job
 pub append_of : (v : Desk) (w : State) (holds : Option Cells) (faults number : ℕ) (ps : List Provider) →
-    DeskStands v (devices holds faults ps) w → (action : Action) → Comes v.core number action
-    → (f : Flight) → IsMover v w holds number action f → (entry : Record) →
-    entry_in v.core number ≡ Some entry →
+    DeskStands v (devices holds faults ps) w → (action : Action) → Comes v.core number action → (f : Flight) →
+    IsMover v w holds number action f → (entry : Record) → entry_in v.core number ≡ Some entry →
     IsAppendOf v (moves_before_next (next_in v.core number)) entry f.append
 append_of v w holds faults number ps stands action comes f m entry given =
-    let same : m.entry ≡ entry = (let e : Some m.entry ≡ Some entry = sym m.given ∙ given in cc) in
-    let size = length-entries w.journal m.appends.records in
-    let end = stands.core.end in
     let gate = m.appends.gate in
     record {
       moves = m.moves ∙ sym (ap moves_before_next comes.value);
-      gate = omega (arith, size, end, gate);
-      body = m.appends.body ∙ ap (λ (r : Record). spelling r ++ 0 ∷ []) same;
+      gate = omega (arith, length-entries w.journal m.appends.records, stands.core.end, gate);
+      body = m.appends.body ∙ ap (λ r. spelling r ++ 0 ∷ []) (let e : Some m.entry ≡ Some entry = sym m.given
+          ∙ given in cc);
     }

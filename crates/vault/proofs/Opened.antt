@@ -124,8 +124,7 @@ fresh_works told now area rs store first v read is fresh =
     }
 
     each : (j : ℕ) → j < length ps → slice_get ps j ≡ Some untold
-    each j below =
-        slice_get-get_or ps j untold below
+    each j below = slice_get-get_or ps j untold below
         ∙ ap Some (get_or-replicate n j untold untold (omega (arith, below, length-replicate n untold)))
 
     just : IsJustOpened opened area rs 1 0 ps

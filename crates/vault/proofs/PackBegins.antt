@@ -72,8 +72,7 @@ not_flying (Some f) (Some a) area rs none is = absurd (let e : Some a ≡ None =
 module _ (v : Desk) (at : IsAtWork v) where
   -- its area begins within the text
   pub base-within : v.base ≤ v.core.end
-  base-within = by_work (hlevel props) v
-      (λ w faults ps S. (let b = S.base in let e = S.core.end in omega (arith, b, e))) at
+  base-within = by_work (hlevel props) v (λ w faults ps S. (omega (arith, S.base, S.core.end))) at
 
   -- and is one of the two
   pub two-bases : (v.base ≡ 8) ⊎ (v.base ≡ 2 ^ 23)
@@ -160,13 +159,10 @@ pack-begun v core v' job w d S allowed quiet drew same is_of number before moves
         beside = record {
           held = is_of.held;
           desk = subst (λ (x : Desk). DeskStands x (devices None d.faults d.providers)
-              (aside (drawn w) false w.disk_faults)) (sym same)
-              (again (record v { core = core }) (drawn w) d (devices None d.faults d.providers) w.is_switching
-              false w.disk_faults w.disk_faults
+              (aside (drawn w) false w.disk_faults)) (sym same) (again (record v { core = core }) (drawn w) d
+              (devices None d.faults d.providers) w.is_switching false w.disk_faults w.disk_faults
               (subst (λ (x : State). DeskStands (record v { core = core }) d x)
-              (unalone-is (drawn w) S.core.none_alone) begun)
-              (plain-sound (pack_begun w) fine)
-              (record {
+              (unalone-is (drawn w) S.core.none_alone) begun) (plain-sound (pack_begun w) fine) (record {
                 images = tt;
                 faults = S.devices.faults;
                 providers = handed_same d.providers w (aside (drawn w) false w.disk_faults) S.devices.providers refl

@@ -1,5 +1,5 @@
 -- A pack of the journal is one of the machine.
-use Rattle.vault.proofs.Words.{◌≡◌, ◌⊎◌, ℕ, zero, suc, ◌+◌, ◌<◌, ◌≤◌, Bool, true, false, List, Option, Some, None, refl, sym, ap, ◌∙◌, subst, inl, inr, arith, IfSome, ∥∥₁_map, false≢true, eq-eqb, some-not-none, Cells, Rose, Provider, Area, other_area, text_length, packed, packing, switching, switched, unalone, barred_pack, Outcome, Step, More, Ended, Happens, State, Alone, Packing, setup_in, StepsMine, StepsOne, StepsOpen, Steps, IsSound, alone-sound, journal-same, StandsFirm, Pack, Packs, AreHanded, IsCoreFlight, CoreView, Devices, devices, AreDevices, all-shown, switched-shown, firm-shown, shown-again, Desk, Flight, PackJob, Vault, DeskStands, IsAtWork, IsFlight, cells_by, plain, IsQuiet, IsPackOf, StandsPacking, MakesPackStep, found_none, handed_same}
+use Rattle.vault.proofs.Words.{◌≡◌, ◌⊎◌, ℕ, zero, suc, ◌+◌, ◌<◌, ◌≤◌, Bool, true, false, List, Option, Some, None, refl, sym, ap, ◌∙◌, subst, inl, inr, arith, IfSome, ∥∥₁_map, false≢true, eq-eqb, some-not-none, Cells, Rose, Provider, Area, other_area, text_length, packed, packing, switched, unalone, barred_pack, Outcome, Step, More, Ended, Happens, State, StandsForState, Alone, Packing, setup_in, StepsMine, StepsOne, StepsOpen, Steps, IsSound, alone-sound, journal-same, StandsFirm, Pack, Packs, AreHanded, IsCoreFlight, CoreView, Devices, devices, AreDevices, all-shown, switched-shown, firm-shown, shown-again, Desk, Flight, PackJob, Vault, DeskStands, IsAtWork, IsFlight, cells_by, plain, IsQuiet, IsPackOf, StandsPacking, MakesPackStep, found_none, handed_same}
 use Rattle.std.proofs.Common.{◌==◌}
 use Rattle.record_defs.specs.Records.{Record}
 use Rattle.machine_defs.specs.Alone as machine
@@ -10,8 +10,10 @@ use Rattle.stream_model.specs.declared.fault.WriteFault.{WriteFault}
 use Rattle.stream_model.specs.declared.fault.WriteFault.TheVariants as write_fault
 use Rattle.journal_pack.specs.Packs.{moves_of, text_of, to_of, TurnsPack, PacksDisk, KeepsJournal}
 use Rattle.journal_pack.proofs.Packs.{keeps-journal}
+use Rattle.vault.specs.declared.packing.PackAnswer.{PackAnswer}
 use Rattle.vault.specs.declared.packing.PackAnswer.TheVariants as answer
 use Rattle.vault.specs.declared.packing.PackTurn.TheVariants as turn
+use Rattle.vault.specs.Packing.{pack_answer}
 use Rattle.vault.proofs.Aside.{aside, unalone-is, plain-sound, again, none-flies}
 use Rattle.vault.proofs.Switching.{idle, clear}
 use Rattle.vault.proofs.Untold.{leaves_by}
@@ -33,8 +35,7 @@ turned_by is_told p result q old new t =
 
 barred_flight : (c : CoreView) (o : Option states.Append) → IsCoreFlight c o →
     IsCoreFlight (record c { barred = true }) o
-barred_flight c None is = is
-barred_flight c (Some a) is = is
+barred_flight c _ is = is
 
 -- a desk that is barred stands for the barred state
 again_barred : (v v' : Desk) (w : State) (d e : Devices) (before now : Bool) (old faults : ℕ)
@@ -106,8 +107,7 @@ barred-sound w opened clear S = record {
 -- a quiet desk that is barred goes on to be at work
 pub barred-works : (v v' : Desk) → IsQuiet v → v' ≡ record v { core = record v.core { barred = true } }
     → IsAtWork v → IsAtWork v'
-barred-works v v' quiet is at = λ rest bytes.
-    ∥∥₁_map (at rest bytes) (λ x.
+barred-works v v' quiet is at = λ rest bytes. ∥∥₁_map (at rest bytes) (λ x.
     let w = x.0 in
     let d = devices None x.1 x.2 in
     let S = x.3 in
@@ -118,8 +118,7 @@ barred-works v v' quiet is at = λ rest bytes.
       again_barred v v' w d d w.is_switching w.is_switching w.disk_faults w.disk_faults
           (subst (λ (y : State). DeskStands v d y) (unalone-is w S.core.none_alone) S) is
           (barred-sound (aside w w.is_switching w.disk_faults) S.core.is_open (clear v quiet w d S)
-          (subst (IsSound 8) (unalone-is w S.core.none_alone) S.core.sound))
-          (record {
+          (subst (IsSound 8) (unalone-is w S.core.none_alone) S.core.sound)) (record {
             images = tt;
             faults = S.devices.faults;
             providers = handed_same x.2 w (record (aside w w.is_switching w.disk_faults) { is_barred = true })
@@ -150,6 +149,13 @@ pack-on v job next is number to text few = record {
 
 -- ---- steps
 
+-- how many moves are made
+few_moves : (n : ℕ) → n < 4 → (n < 2) ⊎ ((n ≡ 2) ⊎ (n ≡ 3))
+few_moves (suc (suc zero)) l = inr (inl refl)
+few_moves (suc (suc (suc zero))) l = inr (inr refl)
+few_moves (suc (suc (suc (suc n)))) l = absurd (omega arith)
+few_moves _ l = inl (omega arith)
+
 module _ (v : Vault) (job : PackJob) (w : State) (told : Option Cells) (faults : ℕ) (ps : List Provider)
     (S : StandsPacking v job (devices told faults ps) w) where
   opened : w.is_open ≡ true
@@ -161,8 +167,7 @@ module _ (v : Vault) (job : PackJob) (w : State) (told : Option Cells) (faults :
   -- a step of the pack is one of the machine
   happens : (outcome : Outcome) (new : State) → machine.Packs w S.pack S.pack.moves outcome new
       → (limit moment : ℕ) → Happens limit moment w (Step job.number) outcome new
-  happens outcome new packs limit moment =
-      subst (λ (b : Bool). Steps w job.number b outcome new) (sym opened)
+  happens outcome new packs limit moment = subst (λ (b : Bool). Steps w job.number b outcome new) (sym opened)
       (subst (λ (b : Bool). StepsOpen w job.number b outcome new) (sym S.beside.unbarred)
       (subst (λ (o : Option Alone). StepsOne w job.number o outcome new) (sym S.alone)
       (subst (λ (b : Bool). StepsMine w job.number (Packing S.pack) b outcome new) (sym mine) packs)))
@@ -184,9 +189,8 @@ module _ (v : Vault) (job : PackJob) (w : State) (told : Option Cells) (faults :
   -- the desk stands for the state without the pack, with another count of faults
   beside : (faults' : ℕ) → IsSound 8 (aside w false faults')
       → DeskStands v.desk (devices None faults' ps) (aside w false faults')
-  beside faults' fine =
-      again v.desk w (devices None faults ps) (devices None faults' ps) false false w.disk_faults faults'
-      S.beside.desk fine
+  beside faults' fine = again v.desk w (devices None faults ps) (devices None faults' ps) false false
+      w.disk_faults faults' S.beside.desk fine
       (record { images = tt; faults = refl; providers = handed (aside w false faults') refl (λ j. refl) })
       S.beside.desk.flight
 
@@ -212,13 +216,16 @@ module _ (v : Vault) (job : PackJob) (w : State) (told : Option Cells) (faults :
         → KeepsJournal w.area w.journal (packed w.journal) job.pack (Ok ended) next.pack told'
     on few = kept (Ok ended) next.pack told' t few
 
-    -- the first or the second
-    pub goes_first : moves_of job.pack < 2 → IsPackOf v next
+    -- a move before the fourth leaves the area being switched or not
+    abbrev gone : Bool → State
+    gone switches = record (packing w S.pack) { disk_faults = faults'; is_switching = switches }
+
+    goes_by : (switches : Bool) → machine.Packs w S.pack S.pack.moves More (gone switches)
+        → StandsForState told' (gone switches) → moves_of job.pack < 3
+        → (moves_of job.pack ≡ 2 → switches ≡ true) → IsPackOf v next
         → MakesPackStep w job.number (turn.More next) v (devices told' faults' ps)
-    goes_first few is_of =
-        let new : State = record (packing w S.pack) { disk_faults = faults' } in
-        let made : machine.Packs w S.pack S.pack.moves More new =
-        by S.pack.moves (subst (λ (k : ℕ). k < 2) S.moves_are few) in
+    goes_by switches made images few third is_of =
+        let new = gone switches in
         let fine = sound More new made in
         record {
           state = new;
@@ -231,12 +238,7 @@ module _ (v : Vault) (job : PackJob) (w : State) (told : Option Cells) (faults :
             moves_are = moves;
             is_of = is_of;
             sound = fine;
-            devices = record {
-              images = all-shown told' new w.area w.journal refl refl
-                  ((on (omega (arith, few))).before few);
-              faults = refl;
-              providers = handed new refl (λ j. refl);
-            };
+            devices = record { images = images; faults = refl; providers = handed new refl (λ j. refl) };
             beside = record {
               held = is_of.held;
               desk = beside faults' (plain-sound new fine);
@@ -244,53 +246,27 @@ module _ (v : Vault) (job : PackJob) (w : State) (told : Option Cells) (faults :
               unbarred = S.beside.unbarred;
             };
             on_way = λ l. (on (omega (arith, few))).moved;
-            switching = λ three. absurd (let n = t.turns.count.next in omega (arith, three, n, few));
+            switching = λ three. third (let n = t.turns.count.next in omega (arith, three, n));
             made = λ four. absurd (let n = t.turns.count.next in omega (arith, four, n, few));
           };
         }
-      where
-        by : (k : ℕ) → k < 2
-            → machine.Packs w S.pack k More (record (packing w S.pack) { disk_faults = faults' })
-        by zero l = (faults', low, refl)
-        by (suc zero) l = (faults', low, refl)
-        by (suc (suc k)) l = absurd (omega (arith, l))
 
-    -- the third
-    pub goes_third : moves_of job.pack ≡ 2 → IsPackOf v next
+    -- such a move
+    pub goes : moves_of job.pack < 3 → IsPackOf v next
         → MakesPackStep w job.number (turn.More next) v (devices told' faults' ps)
-    goes_third two is_of =
-        let new : State = record (switching (packing w S.pack)) { disk_faults = faults' } in
-        let made : machine.Packs w S.pack S.pack.moves More new =
-        subst (λ (k : ℕ). machine.Packs w S.pack k More new) (sym two ∙ S.moves_are) (faults', low, refl) in
-        let fine = sound More new made in
-        record {
-          state = new;
-          happens = happens More new made;
-          stands = record {
-            pack = record S.pack { moves = S.pack.moves + 1 };
-            alone = refl;
-            number_is = number_is ∙ S.number_is;
-            before_is = before_is ∙ S.before_is;
-            moves_are = moves;
-            is_of = is_of;
-            sound = fine;
-            devices = record {
-              images = switched-shown told' new w.area w.journal refl refl refl
-                  ((on (omega (arith, two))).between);
-              faults = refl;
-              providers = handed new refl (λ j. refl);
-            };
-            beside = record {
-              held = is_of.held;
-              desk = beside faults' (plain-sound new fine);
-              idle = S.beside.idle;
-              unbarred = S.beside.unbarred;
-            };
-            on_way = λ l. (on (omega (arith, two))).moved;
-            switching = λ three. refl;
-            made = λ four. absurd (let n = t.turns.count.next in omega (arith, four, n, two));
-          };
-        }
+    goes few is_of = elim (few_moves (moves_of job.pack) (omega (arith, few))) [
+      | inl first ↦ goes_by w.is_switching (by S.pack.moves (rw S.moves_are at first))
+          (all-shown told' (gone w.is_switching) w.area w.journal refl refl
+          ((on (omega (arith, first))).before first)) few (λ two. absurd (omega (arith, two, first))) is_of
+      | inr (inl two) ↦ goes_by true (subst (λ (k : ℕ). machine.Packs w S.pack k More (gone true))
+          (sym two ∙ S.moves_are) (faults', low, refl)) (switched-shown told' (gone true) w.area w.journal
+          refl refl refl ((on (omega (arith, two))).between)) few (λ e. refl) is_of
+      | inr (inr three) ↦ absurd (omega (arith, few, three))
+    ]
+      where
+        by : (k : ℕ) → k < 2 → machine.Packs w S.pack k More (gone w.is_switching)
+        by (suc (suc k)) l = absurd (omega (arith, l))
+        by _ l = (faults', low, refl)
 
     -- the fourth, with which the packed journal is that of the vault
     pub goes_fourth : moves_of job.pack ≡ 3 → (v' : Vault) → IsPackOf v' next
@@ -316,8 +292,7 @@ module _ (v : Vault) (job : PackJob) (w : State) (told : Option Cells) (faults :
             is_of = is_of;
             sound = fine;
             devices = record {
-              images = all-shown told' new (other_area w.area) (packed w.journal) refl refl
-                  (kept.after four);
+              images = all-shown told' new (other_area w.area) (packed w.journal) refl refl (kept.after four);
               faults = refl;
               providers = handed new refl (λ j. refl);
             };
@@ -341,31 +316,36 @@ module _ (v : Vault) (job : PackJob) (w : State) (told : Option Cells) (faults :
 
   -- ---- its end
 
+  ends_by : (how : PackAnswer) (told' : Option Cells) (faults' : ℕ) (v' : Vault) → v'.held ≡ None
+      → v'.desk ≡ v.desk → faults' ≡ faults
+      → machine.Packs w S.pack S.pack.moves (Ended (pack_answer how)) (unalone w)
+      → StandsForState told' (unalone w) → IfSome told' (StandsFirm w.area w.journal)
+      → MakesPackStep w job.number (turn.Done how) v' (devices told' faults' ps)
+  ends_by how told' faults' v' free same still made images left = record {
+    state = unalone w;
+    happens = happens (Ended (pack_answer how)) (unalone w) made;
+    stands = record {
+      free = free;
+      desk = subst (λ (x : Desk). DeskStands x (devices told' faults' ps) (unalone w)) (sym same)
+          (again v.desk w (devices None faults ps) (devices told' faults' ps) false w.is_switching w.disk_faults
+          w.disk_faults S.beside.desk (sound (Ended (pack_answer how)) (unalone w) made)
+          (record {
+            images = images;
+            faults = S.devices.faults ∙ sym still;
+            providers = handed (unalone w) refl (λ j. refl);
+          })
+          (λ unbarred. lies v.desk.flight w.append w.area w.journal told' S.is_of.quiet.flight none left));
+    };
+  }
+
   -- all moves are made
   pub ends_made : moves_of job.pack ≡ 4 → (v' : Vault) (after : ℕ) → v'.held ≡ None → v'.desk ≡ v.desk
       → after ≡ text_length w.area w.journal
       → MakesPackStep w job.number (turn.Done (answer.Packed job.before after)) v' (devices told faults ps)
-  ends_made four v' after free same size =
-      let made : machine.Packs w S.pack S.pack.moves (Ended (answers.Packed job.before after)) (unalone w) =
-      subst (λ (k : ℕ). machine.Packs w S.pack k (Ended (answers.Packed job.before after)) (unalone w))
-      (sym four ∙ S.moves_are) (S.before_is, size, refl) in
-      record {
-        state = unalone w;
-        happens = happens (Ended (answers.Packed job.before after)) (unalone w) made;
-        stands = record {
-          free = free;
-          desk = subst (λ (x : Desk). DeskStands x (devices told faults ps) (unalone w)) (sym same)
-              (again v.desk w (devices None faults ps) (devices told faults ps) false w.is_switching w.disk_faults
-              w.disk_faults S.beside.desk (sound (Ended (answers.Packed job.before after)) (unalone w) made)
-              (record {
-                images = shown-again told w (unalone w) refl refl refl refl S.devices.images;
-                faults = S.devices.faults;
-                providers = handed (unalone w) refl (λ j. refl);
-              })
-              (λ unbarred. lies v.desk.flight w.append w.area w.journal told S.is_of.quiet.flight none
-              (S.made four).0));
-        };
-      }
+  ends_made four v' after free same size = ends_by (answer.Packed job.before after) told faults v' free same refl
+      (subst (λ (k : ℕ). machine.Packs w S.pack k (Ended (answers.Packed job.before after)) (unalone w))
+      (sym four ∙ S.moves_are) (S.before_is, size, refl))
+      (shown-again told w (unalone w) refl refl refl refl S.devices.images) (S.made four).0
 
   -- a write found no memory
   pub ends_unwritten : (told' : Option Cells) (faults' : ℕ) (v' : Vault) → v'.held ≡ None → faults' ≡ faults
@@ -373,31 +353,14 @@ module _ (v : Vault) (job : PackJob) (w : State) (told : Option Cells) (faults :
       → result ≡ Err write_fault.Memory → moves_of job.pack < 4 → v'.desk ≡ v.desk
       → MakesPackStep w job.number (turn.Done answer.Memory) v' (devices told' faults' ps)
   ends_unwritten told' faults' v' free still result q t memory few same =
-      let new : State = unalone w in
-      let made : machine.Packs w S.pack S.pack.moves (Ended answers.Memory) new =
-      elim (t.disk.writes memory) [
-        | inl none ↦ subst (λ (k : ℕ). machine.Packs w S.pack k (Ended answers.Memory) new)
-            (sym none ∙ S.moves_are) refl
-        | inr two ↦ subst (λ (k : ℕ). machine.Packs w S.pack k (Ended answers.Memory) new)
-            (sym two ∙ S.moves_are) refl
-      ] in
+      let at = λ (k : ℕ). machine.Packs w S.pack k (Ended answers.Memory) (unalone w) in
       let left = (kept result q told' t few).kept memory in
-      record {
-        state = new;
-        happens = happens (Ended answers.Memory) new made;
-        stands = record {
-          free = free;
-          desk = subst (λ (x : Desk). DeskStands x (devices told' faults' ps) new) (sym same)
-              (again v.desk w (devices None faults ps) (devices told' faults' ps) false w.is_switching
-              w.disk_faults w.disk_faults S.beside.desk (sound (Ended answers.Memory) new made)
-              (record {
-                images = firm-shown told' new w.area w.journal refl refl left;
-                faults = S.devices.faults ∙ sym still;
-                providers = handed new refl (λ j. refl);
-              })
-              (λ unbarred. lies v.desk.flight w.append w.area w.journal told' S.is_of.quiet.flight none left));
-        };
-      }
+      ends_by answer.Memory told' faults' v' free same still
+      (elim (t.disk.writes memory) [
+        | inl none ↦ subst at (sym none ∙ S.moves_are) refl
+        | inr two ↦ subst at (sym two ∙ S.moves_are) refl
+      ])
+      (firm-shown told' (unalone w) w.area w.journal refl refl left) left
 
   module _ (told' : Option Cells) (faults' : ℕ) (v' : Vault) (free : v'.held ≡ None) (falls_not : faults ≤ faults')
     where
@@ -410,124 +373,45 @@ module _ (v : Vault) (job : PackJob) (w : State) (told : Option Cells) (faults :
         risen : Rose w.disk_faults faults'
         risen = subst (λ (n : ℕ). Rose n faults') (sym S.devices.faults) rose
 
-        -- the first or the second move failed
-        pub fails_first : moves_of job.pack < 2
+        -- a failed move leaves the area being switched or not
+        abbrev failed : Bool → State
+        failed switches = record (barred_pack w) { disk_faults = faults'; is_switching = switches }
+
+        fails_by : (switches : Bool) → machine.Packs w S.pack S.pack.moves (Ended answers.DiskFault) (failed switches)
+            → StandsForState told' (failed switches)
             → MakesPackStep w job.number (turn.Done answer.DiskFault) v' (devices told' faults' ps)
-        fails_first few =
-            let new : State = record (barred_pack w) { disk_faults = faults' } in
-            let made : machine.Packs w S.pack S.pack.moves (Ended answers.DiskFault) new =
-            by S.pack.moves (subst (λ (k : ℕ). k < 2) S.moves_are few) in
+        fails_by switches made images =
+            let new = failed switches in
             record {
               state = new;
               happens = happens (Ended answers.DiskFault) new made;
               stands = record {
                 free = free;
                 desk = again_barred v.desk v'.desk w (devices None faults ps) (devices told' faults' ps) false
-                    w.is_switching w.disk_faults faults' S.beside.desk barred
+                    switches w.disk_faults faults' S.beside.desk barred
                     (sound (Ended answers.DiskFault) new made)
-                    (record {
-                      images = all-shown told' new w.area w.journal refl refl
-                          ((kept result q told' t (omega (arith, few))).before few);
-                      faults = refl;
-                      providers = handed new refl (λ j. refl);
-                    });
+                    (record { images = images; faults = refl; providers = handed new refl (λ j. refl) });
               };
             }
+
+        -- a move that failed
+        pub fails : moves_of job.pack < 4
+            → MakesPackStep w job.number (turn.Done answer.DiskFault) v' (devices told' faults' ps)
+        fails few = elim (few_moves (moves_of job.pack) few) [
+          | inl first ↦ fails_by w.is_switching (by S.pack.moves (rw S.moves_are at first))
+              (all-shown told' (failed w.is_switching) w.area w.journal refl refl
+              ((kept result q told' t few).before first))
+          | inr (inl two) ↦ fails_by true
+              (subst (λ (k : ℕ). machine.Packs w S.pack k (Ended answers.DiskFault) (failed true))
+              (sym two ∙ S.moves_are) (faults', fallen, risen, refl)) (switched-shown told' (failed true)
+              w.area w.journal refl refl refl ((kept result q told' t few).between))
+          | inr (inr three) ↦ fails_by w.is_switching
+              (subst (λ (k : ℕ). machine.Packs w S.pack k (Ended answers.DiskFault) (failed w.is_switching))
+              (sym three ∙ S.moves_are) (faults', fallen, risen, refl))
+              (switched-shown told' (failed w.is_switching) w.area w.journal refl refl (S.switching three)
+              ((kept result q told' t few).between))
+        ]
           where
-            by : (k : ℕ) → k < 2 → machine.Packs w S.pack k (Ended answers.DiskFault)
-                (record (barred_pack w) { disk_faults = faults' })
-            by zero l = (faults', fallen, risen, refl)
-            by (suc zero) l = (faults', fallen, risen, refl)
-            by (suc (suc k)) l = absurd (omega (arith, l))
-
-        -- the third
-        pub fails_third : moves_of job.pack ≡ 2
-            → MakesPackStep w job.number (turn.Done answer.DiskFault) v' (devices told' faults' ps)
-        fails_third two =
-            let new : State = record (switching (barred_pack w)) { disk_faults = faults' } in
-            let made : machine.Packs w S.pack S.pack.moves (Ended answers.DiskFault) new =
-            subst (λ (k : ℕ). machine.Packs w S.pack k (Ended answers.DiskFault) new) (sym two ∙ S.moves_are)
-            (faults', fallen, risen, refl) in
-            record {
-              state = new;
-              happens = happens (Ended answers.DiskFault) new made;
-              stands = record {
-                free = free;
-                desk = again_barred v.desk v'.desk w (devices None faults ps) (devices told' faults' ps) false
-                    true w.disk_faults faults' S.beside.desk barred (sound (Ended answers.DiskFault) new made)
-                    (record {
-                      images = switched-shown told' new w.area w.journal refl refl refl
-                          ((kept result q told' t (omega (arith, two))).between);
-                      faults = refl;
-                      providers = handed new refl (λ j. refl);
-                    });
-              };
-            }
-
-        -- the fourth
-        pub fails_fourth : moves_of job.pack ≡ 3
-            → MakesPackStep w job.number (turn.Done answer.DiskFault) v' (devices told' faults' ps)
-        fails_fourth three =
-            let new : State = record (barred_pack w) { disk_faults = faults' } in
-            let made : machine.Packs w S.pack S.pack.moves (Ended answers.DiskFault) new =
-            subst (λ (k : ℕ). machine.Packs w S.pack k (Ended answers.DiskFault) new) (sym three ∙ S.moves_are)
-            (faults', fallen, risen, refl) in
-            record {
-              state = new;
-              happens = happens (Ended answers.DiskFault) new made;
-              stands = record {
-                free = free;
-                desk = again_barred v.desk v'.desk w (devices None faults ps) (devices told' faults' ps) false
-                    w.is_switching w.disk_faults faults' S.beside.desk barred
-                    (sound (Ended answers.DiskFault) new made)
-                    (record {
-                      images = switched-shown told' new w.area w.journal refl refl (S.switching three)
-                          ((kept result q told' t (omega (arith, three))).between);
-                      faults = refl;
-                      providers = handed new refl (λ j. refl);
-                    });
-              };
-            }
-
--- ---- all moves of one kind
-
--- how many moves are made
-pub few_moves : (n : ℕ) → n < 4 → (n < 2) ⊎ ((n ≡ 2) ⊎ (n ≡ 3))
-few_moves zero l = inl (omega arith)
-few_moves (suc zero) l = inl (omega arith)
-few_moves (suc (suc zero)) l = inr (inl refl)
-few_moves (suc (suc (suc zero))) l = inr (inr refl)
-few_moves (suc (suc (suc (suc n)))) l = absurd (omega (arith, l))
-
--- a move that failed
-pub fails : (v : Vault) (job : PackJob) (w : State) (told : Option Cells) (faults : ℕ) (ps : List Provider)
-    (S : StandsPacking v job (devices told faults ps) w) (told' : Option Cells) (faults' : ℕ) (v' : Vault)
-    → v'.held ≡ None → faults ≤ faults' → (result : Result Bool WriteFault) (q : Pack)
-    → IsTurned job.pack result q told told' → Rose faults faults'
-    → v'.desk ≡ record v.desk { core = record v.desk.core { barred = true } } → moves_of job.pack < 4
-    → MakesPackStep w job.number (turn.Done answer.DiskFault) v' (devices told' faults' ps)
-fails v job w told faults ps S told' faults' v' free falls_not result q t rose barred few =
-    elim (few_moves (moves_of job.pack) few) [
-      | inl first ↦
-          fails_first v job w told faults ps S told' faults' v' free falls_not result q t rose barred first
-      | inr (inl two) ↦
-          fails_third v job w told faults ps S told' faults' v' free falls_not result q t rose barred two
-      | inr (inr three) ↦
-          fails_fourth v job w told faults ps S told' faults' v' free falls_not result q t rose barred three
-    ]
-
--- a move behind which the fourth is not made
-pub goes : (v : Vault) (job : PackJob) (w : State) (told : Option Cells) (faults : ℕ) (ps : List Provider)
-    (S : StandsPacking v job (devices told faults ps) w) (next : PackJob) (told' : Option Cells) (faults' : ℕ)
-    → next.number ≡ job.number → next.before ≡ job.before → (ended : Bool)
-    → IsTurned job.pack (Ok ended) next.pack told told'
-    → faults ≤ faults' → moves_of job.pack < 3 → IsPackOf v next
-    → MakesPackStep w job.number (turn.More next) v (devices told' faults' ps)
-goes v job w told faults ps S next told' faults' number before ended t falls_not few is_of =
-    elim (few_moves (moves_of job.pack) (omega (arith, few))) [
-      | inl first ↦
-          goes_first v job w told faults ps S next told' faults' number before ended t falls_not first is_of
-      | inr (inl two) ↦
-          goes_third v job w told faults ps S next told' faults' number before ended t falls_not two is_of
-      | inr (inr three) ↦ absurd (omega (arith, few, three))
-    ]
+            by : (k : ℕ) → k < 2 → machine.Packs w S.pack k (Ended answers.DiskFault) (failed w.is_switching)
+            by (suc (suc k)) l = absurd (omega arith)
+            by _ l = (faults', fallen, risen, refl)

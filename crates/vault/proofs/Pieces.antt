@@ -8,24 +8,21 @@ symbol_behind : (before bytes : List ℕ) (number i : ℕ) → 16 * number ≡ l
     → symbol_of (before ++ bytes) number ≡ symbol_of bytes i
 unfolding symbol_of
 symbol_behind before bytes number i is =
-    ap (from_le_bytes w128)
-    (ap (λ (k : ℕ). drop k (before ++ bytes)) is ∙ drop-append-add before bytes (16 * i))
+    ap (from_le_bytes w128) (ap (λ k. drop k (before ++ bytes)) is ∙ drop-append-add before bytes (16 * i))
 
 -- a symbol whose bytes are all there
 symbol_before : (bytes more : List ℕ) (i : ℕ) → 16 * i + 16 ≤ length bytes
     → symbol_of (bytes ++ more) i ≡ symbol_of bytes i
 unfolding symbol_of
-symbol_before bytes more i room =
-    from_le_bytes-same (drop (16 * i) (bytes ++ more)) (drop (16 * i) bytes)
+symbol_before bytes more i room = from_le_bytes-same (drop (16 * i) (bytes ++ more)) (drop (16 * i) bytes)
     (λ k less. get_or-drop (16 * i) (bytes ++ more) k 0
     ∙ get_or_append_left bytes more 0 (16 * i + k) (omega (arith, room, less))
     ∙ sym (get_or-drop (16 * i) bytes k 0))
 
 -- the symbols of a stripe are those of the first stripe of its piece, which is whole or the last
-pub symbols_of_piece : (o : Object) (before piece rest : List ℕ) (stripe : ℕ)
-    → length before ≡ stripe * (16 * stripe_symbols o)
-    → (16 * stripe_symbols o ≤ length piece) ⊎ (rest ≡ [])
-    → symbols_in o (before ++ (piece ++ rest)) stripe ≡ symbols_in o piece 0
+pub symbols_of_piece : (o : Object) (before piece rest : List ℕ) (stripe : ℕ) →
+    length before ≡ stripe * (16 * stripe_symbols o) → (16 * stripe_symbols o ≤ length piece) ⊎ (rest ≡ []) →
+    symbols_in o (before ++ (piece ++ rest)) stripe ≡ symbols_in o piece 0
 symbols_of_piece o before piece rest stripe place whole =
     map-range_same (λ i. symbol_of (before ++ (piece ++ rest)) (stripe * stripe_symbols o + i))
     (λ i. symbol_of piece (0 * stripe_symbols o + i)) 0 (stripe_symbols o)

@@ -1,5 +1,5 @@
 -- The files that a running job works on, as a core keeps them.
-use Rattle.vault.proofs.Words.{◌≡◌, ℕ, suc, ◌+◌, ◌≤◌, true, false, cond, List, [], ◌∷◌, map, Option, Some, None, refl, sym, ap, subst, ◌∙◌, inl, inr, arith, zero-add, position_from, AllZip, option_map, cases_Bool, eq-eqb, ne_eqb, position_from-zero, Each, Setup, Plan, pinned_profile, Job, job_of, State, setup_in, cond_true, cond_false, same_value, AreAscending, CoreIs, IsJobOf, pin_of, CoreJob, CoreView, job_in, PinnedValue, pin_at, pin_among, pin_of_job, pin_in, profile_or}
+use Rattle.vault.proofs.Words.{◌≡◌, ℕ, suc, ◌+◌, ◌≤◌, true, false, cond, List, [], ◌∷◌, map, Option, Some, None, refl, sym, ap, ◌∙◌, inl, inr, arith, zero-add, position_from, AllZip, option_map, cases_Bool, eq-eqb, ne_eqb, position_from-zero, Each, Setup, Plan, pinned_profile, Job, job_of, State, setup_in, cond_true, cond_false, same_value, AreAscending, CoreIs, IsJobOf, pin_of, CoreJob, CoreView, job_in, PinnedValue, pin_at, pin_among, pin_of_job, pin_in, profile_or}
 use Rattle.std.proofs.Common.{◌==◌}
 use Rattle.machine_defs.specs.Jobs.{Pinned}
 use Rattle.vault.proofs.Asks.{above, each_both}
@@ -35,9 +35,8 @@ behind_one f fs (Some q) = refl
 
 at_is : (fs : List PinnedValue) (k : ℕ) → pin_at fs (at_id fs k) ≡ pin_by_id fs k
 at_is [] k = refl
-at_is (f ∷ fs) k = elim (f.id == k) as
-    (λ b. pin_at (f ∷ fs) (cond b (Some 0) (option_map suc (at_id fs k)))
-    ≡ cond b (Some f) (pin_by_id fs k)) [
+at_is (f ∷ fs) k = elim (f.id == k) as (λ b. pin_at (f ∷ fs) (cond b (Some 0) (option_map suc (at_id fs k))) ≡
+    cond b (Some f) (pin_by_id fs k)) [
       | true ↦ refl
       | false ↦ behind_one f fs (at_id fs k) ∙ at_is fs k
     ]
@@ -53,12 +52,11 @@ pub pins_found : (low : ℕ) (fs : List Pinned) → AreAscending low fs →
 pins_found low [] h = tt
 pins_found low (g ∷ fs) h = (
   cond_true (g.id == g.id) (Some (pin_of g)) (pin_by_id (map pin_of fs) g.id) (eq-eqb g.id g.id refl),
-  each_both (λ (f : Pinned). pin_by_id (map pin_of fs) f.id ≡ Some (pin_of f))
-      (λ (f : Pinned). g.id + 1 ≤ f.id)
-      (λ (f : Pinned). pin_by_id (map pin_of (g ∷ fs)) f.id ≡ Some (pin_of f)) fs
+  each_both (λ f. pin_by_id (map pin_of fs) f.id ≡ Some (pin_of f)) (λ f. g.id + 1 ≤ f.id)
+      (λ f. pin_by_id (map pin_of (g ∷ fs)) f.id ≡ Some (pin_of f)) fs
       (λ f found far. cond_false (g.id == f.id) (Some (pin_of g)) (pin_by_id (map pin_of fs) f.id)
-      (ne_eqb g.id f.id (λ e. absurd (omega (arith, far, e)))) ∙ found)
-      (pins_found (g.id + 1) fs h.1) (above (g.id + 1) (g.id + 1) fs (omega arith) h.1),
+      (ne_eqb g.id f.id (λ e. absurd (omega arith))) ∙ found) (pins_found (g.id + 1) fs h.1)
+      (above (g.id + 1) (g.id + 1) fs (omega arith) h.1),
 )
 
 -- the profile of the file that is found is the one of the machine
@@ -77,24 +75,23 @@ profile_found other (f ∷ fs) o =
 -- a job of the machine stands in the core
 pub core_job : (s : Setup) (cs : List CoreJob) (js : List Job) (k : ℕ) (j : Job) → AllZip (IsJobOf s) cs js →
     job_of js k ≡ Some j → (c : CoreJob) × (job_in cs k ≡ Some c) × IsJobOf s c j
-core_job s [] [] k j are runs = (let e : None ≡ Some j = runs in cc)
-core_job s [] (x ∷ js) k j are runs = absurd are
-core_job s (c ∷ cs) [] k j are runs = absurd are
+core_job s [] [] k j are runs = (cc runs)
 core_job s (c ∷ cs) (x ∷ js) k j are runs = elim (cases_Bool (x.number == k)) [
   | inl t ↦ (
-      let same : x ≡ j = same_value _ x j (cond_true (x.number == k) (Some x) (job_of js k) t) runs in (
+      let same = same_value _ x j (cond_true (x.number == k) (Some x) (job_of js k) t) runs in (
         c,
-        cond_true (c.number == k) (Some c) (job_in cs k) (ap (λ (n : ℕ). n == k) are.0.number ∙ t),
-        subst (λ (y : Job). IsJobOf s c y) same are.0,
+        cond_true (c.number == k) (Some c) (job_in cs k) (ap (λ n. n == k) are.0.number ∙ t),
+        (rw same at are.0),
       ))
   | inr f ↦ (
       let r = core_job s cs js k j are.1 (sym (cond_false (x.number == k) (Some x) (job_of js k) f) ∙ runs) in (
         r.0,
-        cond_false (c.number == k) (Some c) (job_in cs k) (ap (λ (n : ℕ). n == k) are.0.number ∙ f)
+        cond_false (c.number == k) (Some c) (job_in cs k) (ap (λ n. n == k) are.0.number ∙ f)
             ∙ r.1,
         r.2,
       ))
 ]
+core_job s _ _ k j are runs = absurd are
 
 -- what the core finds of a file that a job works on
 pub pin_is : (c : CoreView) (w : State) (number o : ℕ) (job : Job) → CoreIs c w →
@@ -125,6 +122,5 @@ told_none (Some j) o e = absurd (let f : None ≡ Some j.plan.pins = e in cc)
 -- where it tells some, the file is among these
 pub told_some : (j : Option CoreJob) (pins : List PinnedValue) (o : ℕ) →
     Some pins ≡ option_map (λ (x : CoreJob). x.plan.pins) j → pin_of_job j o ≡ pin_among pins o
-told_some None pins o e = absurd (let f : Some pins ≡ None = e in cc)
-told_some (Some j) pins o e = ap (λ (l : List PinnedValue). pin_among l o)
-    (same_value _ j.plan.pins pins refl (sym e))
+told_some None pins o e = absurd (cc e)
+told_some (Some j) pins o e = ap (λ l. pin_among l o) (same_value _ j.plan.pins pins refl (sym e))

@@ -1,5 +1,5 @@
 -- Begins of puts.
-use Rattle.vault.proofs.Words.{◌≡◌, ℕ, ◌<◌, true, false, List, [], ◌∷◌, ◌++◌, Option, None, Some, refl, sym, ap, subst, ◌∙◌, IsTrue, not, nat_lt, lt-ltb, false≢true, Setup, is_name, largest_file, beginning, chosen, PutJob, aim_of, Cause, first_refusal, sight_of, is_crowded_for, is_full, unknown_profile, too_old, State, setup_in, Devices, with_master, IsBench, IsBenchFor, is_unknown, DeskStands, IsPutTask, Desk}
+use Rattle.vault.proofs.Words.{◌≡◌, ℕ, ◌<◌, true, false, List, [], ◌∷◌, ◌++◌, Option, None, Some, refl, sym, ap, ◌∙◌, IsTrue, not, nat_lt, lt-ltb, false≢true, Setup, is_name, largest_file, beginning, chosen, PutJob, aim_of, Cause, first_refusal, sight_of, is_crowded_for, is_full, unknown_profile, too_old, State, setup_in, Devices, with_master, IsBenchFor, is_unknown, DeskStands, IsPutTask, Desk}
 use Rattle.std.proofs.Common.{length}
 use Rattle.machine_defs.specs.Refusals as refusal
 use Rattle.vault.specs.declared.tasks.PutTask.{PutTask}
@@ -7,11 +7,10 @@ use Rattle.vault.proofs.BenchLemmas.{bench-is}
 
 -- the causes of a put behind that of its name
 abbrev pub causes_of_put : State → List ℕ → List ℕ → Option ℕ → List Cause
-causes_of_put w name bytes profile =
-    (unknown_profile profile ++ record {
-      applies = nat_lt largest_file (length bytes);
-      refusal = refusal.TooLong;
-    }
+causes_of_put w name bytes profile = (unknown_profile profile ++ record {
+  applies = nat_lt largest_file (length bytes);
+  refusal = refusal.TooLong;
+}
     ∷ (too_old (sight_of w) profile
     ++ record { applies = is_crowded_for (sight_of w) name; refusal = refusal.TooManyFiles } ∷ []))
     ++ record {
@@ -35,11 +34,10 @@ pub too-long : (w : State) (name bytes : List ℕ) (profile : Option ℕ) → Is
     → is_unknown profile ≡ false → largest_file < length bytes
     → first_refusal (name_cause name ∷ causes_of_put w name bytes profile) ≡ Some refusal.TooLong
 too-long w name bytes None named known long =
-    let long_is : nat_lt largest_file (length bytes) ≡ true = lt-ltb largest_file (length bytes) long in
+    let long_is = lt-ltb largest_file (length bytes) long in
     rw (named, long_is) refl
 too-long w name bytes (Some p) named known long =
-    let long_is : nat_lt largest_file (length bytes) ≡ true = lt-ltb largest_file (length bytes) long in
-    rw (named, known, long_is) refl
+    rw (named, known, lt-ltb largest_file (length bytes) long) refl
 
 -- what a put begins with
 pub put-task : (v : Desk) (d : Devices) (w : State) (moment : ℕ) (name : List ℕ) (own : Option ℕ)
@@ -49,7 +47,6 @@ pub put-task : (v : Desk) (d : Devices) (w : State) (moment : ℕ) (name : List 
 put-task v d w moment name own t size profile stands bench is = record {
   name = name;
   kind = refl;
-  bench = subst (λ (p : ℕ). IsBench (setup_in w) p t.bench)
-      (is v.master.0 ∙ ap (λ (s : Setup). chosen s own) (sym stands.setup))
+  bench = rw (is v.master.0 ∙ ap (λ (s : Setup). chosen s own) (sym stands.setup)) at
       (bench-is v (setup_in w) 0 size profile t.bench stands.shaped stands.setup bench);
 }

@@ -10,19 +10,7 @@ pub cause : (w : State) (kind : Kind) (own : Option ℕ) (why : BeginFault)
     → (why ≢ fault.Memory → refusal_of_begin 8 w kind own ≡ Some (refusal_of why))
     → (refusal_of_begin 8 w kind own ≡ Some (refusal_of why)) ⊎ (refusal_of why ≡ refusal.Memory)
 cause w kind own fault.Memory is = inr refl
-cause w kind own fault.MustReopen is = inl (is (search rules))
-cause w kind own fault.Busy is = inl (is (search rules))
-cause w kind own fault.BadName is = inl (is (search rules))
-cause w kind own fault.TooLong is = inl (is (search rules))
-cause w kind own fault.BadProfile is = inl (is (search rules))
-cause w kind own fault.OldVersion is = inl (is (search rules))
-cause w kind own fault.NewVersion is = inl (is (search rules))
-cause w kind own fault.NoSuchName is = inl (is (search rules))
-cause w kind own fault.TooManyFiles is = inl (is (search rules))
-cause w kind own fault.RepairDue is = inl (is (search rules))
-cause w kind own fault.NothingDue is = inl (is (search rules))
-cause w kind own fault.JournalFull is = inl (is (search rules))
-cause w kind own fault.PackTooLong is = inl (is (search rules))
+cause w kind own _ is = inl (is (search rules))
 
 -- a begin that is refused leaves what the vault stands for
 pub refused : (old new : Desk) (d : Devices) (w : State) (moment : ℕ) (kind : Kind) (own : Option ℕ)
@@ -34,10 +22,16 @@ pub refused : (old new : Desk) (d : Devices) (w : State) (moment : ℕ) (kind : 
 refused old new d w moment kind own why stands core jobs keeps flight is = record {
   state = w;
   begins = (stands.core.is_open, cause w kind own why is, refl);
-  stands =
-      stands_on old new w w d.holds d.faults d.providers d.providers stands
-      (record { records = refl; journal = refl; area = refl; switching = refl; doubt = refl; append = refl; faults = refl; barred = refl })
-      (handed_same d.providers w w stands.devices.providers refl (λ j. refl))
+  stands = stands_on old new w w d.holds d.faults d.providers d.providers stands (record {
+    records = refl;
+    journal = refl;
+    area = refl;
+    switching = refl;
+    doubt = refl;
+    append = refl;
+    faults = refl;
+    barred = refl;
+  }) (handed_same d.providers w w stands.devices.providers refl (λ j. refl))
       (subst (λ (c : CoreView). CoreIs c w) (sym core) stands.core) keeps flight
       (subst (λ (items : List Running). AreRunning (setup_in w) items w.jobs) (sym jobs) stands.jobs)
       (subst (λ (c : CoreView). AreAtHand (setup_in w) c.jobs new.jobs.items w.jobs) (sym core)

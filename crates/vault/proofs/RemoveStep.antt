@@ -1,17 +1,16 @@
 -- A removal is a step of the machine.
-use Rattle.vault.proofs.Words.{◌≡◌, ℕ, zero, suc, ◌<◌, List, [], ◌∷◌, Option, Some, None, refl, sym, ap, subst, ◌∙◌, slice_get, slice_set, Cells, Provider, Removes, Remove, actions_left, Kind, PutJob, GetJob, DropJob, AuditJob, RepairJob, UpgradeJob, Job, advanced, State, setup_in, going_on, with_provider, next_action, ComesNext, Running, Task, Desk, AreHanded, devices, KeepsAll, IsFed, DeskStands, Comes, DeskMakesStep, IsTask, IsRunning}
+use Rattle.vault.proofs.Words.{◌≡◌, ℕ, ◌<◌, List, Option, Some, None, refl, sym, subst, ◌∙◌, slice_get, slice_set, Cells, Provider, Removes, Remove, actions_left, Kind, PutJob, GetJob, DropJob, AuditJob, RepairJob, UpgradeJob, Job, advanced, State, setup_in, going_on, with_provider, next_action, ComesNext, Running, Task, Desk, AreHanded, devices, KeepsAll, IsFed, DeskStands, Comes, DeskMakesStep, IsTask, IsRunning}
 use Rattle.std.proofs.Common.{length}
 use Rattle.vault_core.specs.declared.reply.Reply.TheVariants as reply
 use Rattle.vault.specs.declared.tasks.Task.TheVariants as task
 use Rattle.vault.specs.declared.turn.Turn.TheVariants as turn
 use Rattle.vault.proofs.Allowed.{IsAllowed, next_allowed}
 use Rattle.vault.proofs.JobPlaces.{place_is}
-use Rattle.vault.proofs.Ways.{working, is_handed, handed_on, goes_on}
+use Rattle.vault.proofs.Ways.{set_same, working, is_handed, handed_on, goes_on}
 
 module _ (w : State) (job : Job) (k o : ℕ) (next : next_action w job ≡ Some (Remove k o)) where
   not_allowed : (kind : Kind) → job.kind ≡ kind → IsAllowed (setup_in w).n kind (Remove k o)
-  not_allowed kind is =
-      subst (λ (x : Kind). IsAllowed (setup_in w).n x (Remove k o)) is (next_allowed w job (Remove k o) next)
+  not_allowed kind is = rw is at (next_allowed w job (Remove k o) next)
 
   -- the provider is one of the setup's
   within : k < (setup_in w).n
@@ -40,13 +39,6 @@ module _ (w : State) (job : Job) (k o : ℕ) (next : next_action w job ≡ Some 
       by_task (task.Repair t) is = absurd (not_allowed RepairJob is.kind)
       by_task task.Upgrade is = absurd (not_allowed UpgradeJob is)
 
--- a list is itself with what is there set again
-pub set_same : {X : Type 0} (xs : List X) (p : ℕ) (x : X) → slice_get xs p ≡ Some x → xs ≡ slice_set xs p x
-set_same [] p x there = (let e : None ≡ Some x = there in cc)
-set_same (y ∷ ys) zero x there =
-    (let same : y ≡ x = (let e : Some y ≡ Some x = there in cc) in ap (λ (z : _). z ∷ ys) same)
-set_same (y ∷ ys) (suc p) x there = ap (λ (l : List _). y ∷ l) (set_same ys p x there)
-
 module _ (v : Desk) (w : State) (holds : Option Cells) (faults moment number k o : ℕ) (ps : List Provider)
     (stands : DeskStands v (devices holds faults ps) w) (comes : Comes v.core number (Remove k o)) where
   coming : ComesNext w number (Remove k o) None
@@ -58,19 +50,16 @@ module _ (v : Desk) (w : State) (holds : Option Cells) (faults moment number k o
 
   -- the removal is a step of the machine
   pub remove_step : (v' : Desk) (ps' : List Provider) (p q : Provider) → Removes o p q →
-      slice_get ps k ≡ Some p → ps' ≡ slice_set ps k q
-      → v'.jobs.items ≡ v.jobs.items → KeepsAll v v' → v'.flight ≡ v.flight →
-      IsFed v.core number reply.Done v'.core
-      → DeskMakesStep w moment number turn.More v' (devices holds faults ps) (devices holds faults ps')
+      slice_get ps k ≡ Some p → ps' ≡ slice_set ps k q → v'.jobs.items ≡ v.jobs.items → KeepsAll v v' →
+      v'.flight ≡ v.flight → IsFed v.core number reply.Done v'.core →
+      DeskMakesStep w moment number turn.More v' (devices holds faults ps) (devices holds faults ps')
   remove_step v' ps' p q removes p_is ps_is jobs keeps flight fed =
       let job = coming.job in
       let f = working v (devices holds faults ps) w number (Remove k o) stands coming in
       let new : State = record (going_on w (advanced job)) { providers = with_provider w.providers k q } in
-      let seen : p ≡ w.providers k =
-      (let e : Some p ≡ Some (w.providers k) = sym p_is ∙ stands.devices.providers.each k provider_there in
-      cc) in
+      let seen : p ≡ w.providers k = cc (sym p_is ∙ stands.devices.providers.each k provider_there) in
       goes_on v v' w new holds faults moment number f.place ps ps' (Remove k o) f.running f.running
-      (advanced job) stands coming
+      (advanced job) reply.Done stands coming
       (q, subst (λ (x : Provider). Removes o x q) seen removes, refl)
       (record { records = refl; journal = refl; area = refl; switching = refl; doubt = refl; append = refl; faults = refl; barred = refl })
       refl refl
@@ -79,7 +68,7 @@ module _ (v : Desk) (w : State) (holds : Option Cells) (faults moment number k o
       (jobs ∙ set_same v.jobs.items f.place f.running f.there)
       (subst (λ (l : List Provider). AreHanded l new) (sym ps_is)
       (handed_on ps w new k q stands.devices.providers provider_there refl (λ j. refl)))
-      keeps flight fed
+      keeps flight fed tt
       (record {
         wants = comes.wants;
         number_is = refl;

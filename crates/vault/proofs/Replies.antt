@@ -45,8 +45,7 @@ move_replies v v0 job rest next =
 -- a job that was ended goes not on
 pub goes_not_on : (v new : Desk) (job : ℕ) (r : Reply) (a : Answer) (t : Turn)
     → IsStopped v job r a t new → t ≡ turn.More → ⊥
-goes_not_on v new job r a t stopped more =
-    let e : turn.More ≡ turn.Done _ = sym more ∙ stopped.turn_is in cc
+goes_not_on v new job r a t stopped more = cc (sym more ∙ stopped.turn_is)
 
 -- and its answer has padded counts, where the one that it was given has
 pub padded_end : (v new : Desk) (job : ℕ) (r : Reply) (a : Answer) (t : Turn)

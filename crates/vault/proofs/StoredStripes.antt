@@ -32,8 +32,7 @@ IsNoStore action = Unit {0}
 
 -- the stores of the stripes from one on, each on n providers
 abbrev stores_from : ℕ → ℕ → ℕ → ℕ → List Action
-stores_from n object a m =
-    flat_map (λ stripe. map (λ j. Store j object stripe) (upto n)) (range_with_len a m)
+stores_from n object a m = flat_map (λ stripe. map (λ j. Store j object stripe) (upto n)) (range_with_len a m)
 
 pub record IsPlaced (n a m q t : ℕ) : Type 0 where
   pub first : a ≤ t
@@ -96,22 +95,11 @@ store_place s job name bytes k o t kind is =
                 let last = placed.last in
                 (omega (arith, least, from), omega (arith, most, from), omega (arith, last)))
             | inr b ↦ absurd (no_store (append_actions ++ (remove_actions s job ++ End ∷ []))
-                (job.place - 4 - length (store_actions s job bytes)) k o t (
-                  tt,
-                  (
-                    tt,
-                    (
-                      tt,
-                      (
-                        tt,
-                        each_append IsNoStore (remove_actions s job) (End ∷ [])
-                            (each_flat IsNoStore (λ object. on_each_provider s (λ j. Remove j object)) job.older
-                            (λ object. each_map IsNoStore (λ j. Remove j object) (upto s.n) (λ j. tt)))
-                            (tt, tt),
-                      ),
-                    ),
-                  ),
-                ) b.1)
+                (job.place - 4 - length (store_actions s job bytes)) k o t
+                (each_append IsNoStore append_actions (remove_actions s job ++ End ∷ []) (tt, (tt, (tt, (tt, tt))))
+                (each_append IsNoStore (remove_actions s job) (End ∷ [])
+                (each_flat IsNoStore (λ object. on_each_provider s (λ j. Remove j object)) job.older
+                (λ object. each_map IsNoStore (λ j. Remove j object) (upto s.n) (λ j. tt))) (tt, tt))) b.1)
           ])
     ]
 
@@ -134,26 +122,22 @@ last_left : (s : Setup) (hand : Option ℕ) (job : Job) (name bytes : List ℕ) 
     → HasLast s hand job (PutJob name bytes) → job.place < 4 + (t + 1) * s.n
     → t < put_stripes s job bytes → hand ≡ Some t
 last_left s hand job name bytes t (stripe, on, few) most less =
-    let from = on.1 in
-    let b = fewer_times stripe (t + 1) s.n (omega (arith, from, most)) in
-    on.0 ∙ ap (λ (x : ℕ). Some x) (let e : stripe ≡ t = omega (arith, b, few, less) in e)
+    let b = fewer_times stripe (t + 1) s.n (omega (arith, on.1, most)) in
+    on.0 ∙ ap (λ x. Some x) (omega (arith, b, few, less))
 
 -- a stream has the stripe at hand that it stores next
-pub stripe_stored : (w : State) (job : Job) (name bytes : List ℕ) (k o t : ℕ)
-    → job.kind ≡ PutJob name bytes → next_action w job ≡ Some (Store k o t)
-    → (told hand : Option ℕ) → wanted_at (setup_in w) job.place told ≡ None
-    → HasAtHand (setup_in w) told (Some hand) job → hand ≡ Some t
+pub stripe_stored : (w : State) (job : Job) (name bytes : List ℕ) (k o t : ℕ) → job.kind ≡ PutJob name bytes →
+    next_action w job ≡ Some (Store k o t) → (told hand : Option ℕ) →
+    wanted_at (setup_in w) job.place told ≡ None → HasAtHand (setup_in w) told (Some hand) job → hand ≡ Some t
 stripe_stored w job name bytes k o t kind next told hand wants is =
     let there = store_place (setup_in w) job name bytes k o t kind
     (next_stands w job (Store k o t) next (λ e. absurd (let f : ⊥ = cc in f))) in
     by_told told wants is there.0 there.1 there.2
   where
-    by_told : (told : Option ℕ) → wanted_at (setup_in w) job.place told ≡ None
-        → HasAtHand (setup_in w) told (Some hand) job → 4 + t * (setup_in w).n ≤ job.place
-        → job.place < 4 + (t + 1) * (setup_in w).n → t < put_stripes (setup_in w) job bytes
-        → hand ≡ Some t
+    by_told : (told : Option ℕ) → wanted_at (setup_in w) job.place told ≡ None →
+        HasAtHand (setup_in w) told (Some hand) job → 4 + t * (setup_in w).n ≤ job.place →
+        job.place < 4 + (t + 1) * (setup_in w).n → t < put_stripes (setup_in w) job bytes → hand ≡ Some t
     by_told None wants is least most less =
-        last_left (setup_in w) hand job name bytes t
-        (subst (HasLast (setup_in w) hand job) kind is) most less
+        last_left (setup_in w) hand job name bytes t (subst (HasLast (setup_in w) hand job) kind is) most less
     by_told (Some stripes) wants is least most less =
         last_given (setup_in w) stripes hand job t wants is least most

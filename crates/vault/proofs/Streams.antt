@@ -1,6 +1,6 @@
 -- Streams of a vault: which wait, how they begin, and how they are given up.
 use mathlib.Core.Bool.{Bool-set}
-use Rattle.vault.proofs.Words.{◌≡◌, ℕ, ◌+◌, ◌*◌, ◌≤◌, true, List, [], ◌∷◌, take, Option, Some, None, Result, Ok, Err, refl, sym, ap, subst, ◌∙◌, inl, inr, arith, IsSome, is_some, slice_get, remove, cases_Bool, cases_eq, false≢true, All-head, All-tail, All-take, ∥∥₁_map, ℕ_set, none-some, AllPass-from_list_all, list_all-from_AllPass, length-take, Provider, with_master, Setup, is_byte, largest_file, beginning, chosen, BeginsAt, AreBytes, PutJob, Job, job_of, without_job, State, setup_in, ended, cond_true, cond_false, number_of, found_more, found_without, numbered-below, IsBench, CoreIs, stripe_size, CoreJob, CoreView, job_in, told_by, told_in, wanted_at, wanted_by, wants_in, pair_some, BeginFault, Devices, devices, Desk, Running, StreamTask, IsStreaming, piece_size, IsBenchFor, DeskStands, DeskMakesBegin, PutEndsIn, HasEnds, IsAtWork, begin_outcome, place_in, IsSameDesk, KeepsAll, stripe_by, OpensStream, IsStream, IsRunning, AreRunning, setup_same, handed_same}
+use Rattle.vault.proofs.Words.{◌≡◌, ℕ, ◌+◌, ◌*◌, ◌≤◌, true, List, [], ◌∷◌, take, Option, Some, None, Result, Ok, Err, refl, sym, ap, subst, ◌∙◌, inl, inr, arith, IsSome, is_some, slice_get, remove, cases_Bool, cases_eq, false≢true, All-head, All-tail, All-take, ∥∥₁_map, ℕ_set, none-some, AllPass-from_list_all, list_all-from_AllPass, length-take, Provider, with_master, Setup, is_byte, largest_file, beginning, chosen, BeginsAt, AreBytes, PutJob, Job, job_of, without_job, State, setup_in, ended, cond_true, cond_false, number_of, found_more, found_without, numbered-below, CoreIs, stripe_size, CoreJob, CoreView, job_in, told_by, told_in, wanted_at, wanted_by, wants_in, pair_some, BeginFault, Devices, devices, Desk, Running, StreamTask, IsStreaming, piece_size, IsBenchFor, DeskStands, DeskMakesBegin, PutEndsIn, HasEnds, IsAtWork, begin_outcome, place_in, IsSameDesk, KeepsAll, stripe_by, OpensStream, IsStream, AreRunning, setup_same, handed_same}
 use Rattle.std.proofs.Common.{◌==◌, length}
 use Rattle.std.specs.List.{All}
 use Rattle.vault.proofs.AtWork.{by_work}
@@ -35,8 +35,7 @@ stream-task v d w moment name bytes own t size profile stands bench is none = re
   name = name;
   bytes = bytes;
   kind = refl;
-  bench = subst (λ (p : ℕ). IsBench (setup_in w) p t.bench)
-      (is v.master.0 ∙ ap (λ (s : Setup). chosen s own) (sym stands.setup))
+  bench = rw (is v.master.0 ∙ ap (λ (s : Setup). chosen s own) (sym stands.setup)) at
       (bench-is v (setup_in w) 0 size profile t.bench stands.shaped stands.setup bench);
   rows = λ x hand. absurd (none-some x (sym none ∙ hand));
 }
@@ -69,8 +68,7 @@ stream_ends old new (Ok job) name bytes own w state moment rest opens core core'
       | inl h ↦ (
           let mine : m ≡ old.core.next_job = h.0 ∙ sym core.next_job in
           let none : 0 ≡ stripes =
-          (let e : Some 0 ≡ Some stripes =
-          sym opens.opened ∙ ap (told_in new.core.jobs) (opens.number ∙ sym mine) ∙ told in cc) in
+          cc (sym opens.opened ∙ ap (told_in new.core.jobs) (opens.number ∙ sym mine) ∙ told) in
           let zero_is : 0 ≡ 0 * stripe_size (setup_in state) j.profile = omega arith in
           subst (λ (x : Job). PutEndsIn (stripes * stripe_size (setup_in state) j.profile) (rest m) x.kind)
           (sym h.1)
@@ -99,8 +97,7 @@ pub stream_works : (old new : Desk) (name : List ℕ) (own : Option ℕ) (result
     → ((w : State) (d : Devices) (moment : ℕ) (bytes : List ℕ) → DeskStands old d w → AreBytes bytes
     → length bytes ≤ largest_file → DeskMakesBegin w moment (PutJob name bytes) own result new d)
     → IsAtWork old → IsAtWork new
-stream_works old new name own result opens makes at = λ rest are.
-    ∥∥₁_map (at rest are) (λ x.
+stream_works old new name own result opens makes at = λ rest are. ∥∥₁_map (at rest are) (λ x.
     let bytes = take largest_file (rest old.core.next_job) in
     let m = makes x.0 (devices None x.1 x.2) 0 bytes x.3
     (list_all-from_AllPass is_byte bytes
@@ -124,8 +121,7 @@ some_of (Some x) e = (x, refl)
 -- its place is there
 pub place_waits : (v : Desk) (number : ℕ) → is_some (wants_in v.core number) ≡ true → IsAtWork v
     → IsSome (place_in v.jobs.items number)
-place_waits v number wants =
-    by_work (Bool-set _ _) v (λ w faults ps S.
+place_waits v number wants = by_work (Bool-set _ _) v (λ w faults ps S.
     let x = some_of (wants_in v.core number) wants in
     let runs = waits_runs v (devices None faults ps) w number x.0 S x.1 in
     let f = found (setup_in w) v.jobs.items w.jobs number runs.0 S.jobs runs.1 in
@@ -145,15 +141,12 @@ module _ (v : Desk) (number stripe place : ℕ) (r : Running) (wants : wants_in 
     size_here : piece_size r.task ≡ stripe_by v.core.setup (job_in v.core.jobs number)
     size_here =
         let runs = waits_runs v (devices None faults ps) w number stripe S wants in
-        let wait = waiting v (devices None faults ps) w number stripe runs.0 S runs.1 wants in
         let f = found (setup_in w) v.jobs.items w.jobs number runs.0 S.jobs runs.1 in
-        let here : f.place ≡ place =
-        (let e : Some f.place ≡ Some place = sym f.at ∙ sym (place_is v.jobs.items number) ∙ at in cc) in
-        let one : f.running ≡ r =
-        (let e : Some f.running ≡ Some r = sym f.there ∙ ap (slice_get v.jobs.items) here ∙ there in cc) in
+        let same : f.place ≡ place = cc (sym f.at ∙ sym (place_is v.jobs.items number) ∙ at) in
+        let one : f.running ≡ r = cc (sym f.there ∙ ap (slice_get v.jobs.items) same ∙ there) in
         bench_bytes (setup_in w) runs.0 r.task streams_here
-        (subst (λ (x : Running). IsRunning (setup_in w) x runs.0) one f.is).task
-        ∙ sym wait.size
+        (rw one at f.is).task
+        ∙ sym (waiting v (devices None faults ps) w number stripe runs.0 S runs.1 wants).size
 
   -- its task is that of a stream, whose stripes have the size that the core knows
   pub streams_there : IsAtWork v → IsStreaming r.task
@@ -199,15 +192,14 @@ module _ (v v' : Desk) (number : ℕ) (g : IsAbandoned v v' number) where
   abandoned_stands w d j S runs =
       let s = setup_in w in
       let core = g.stands w j S.core runs in
-      let mine : j.number ≡ number = number_of w.jobs number j runs in
       let at = sym (place_is v.jobs.items number) ∙ g.at in
-      let jobs : (ended w j).jobs ≡ without_job w.jobs number = ap (without_job w.jobs) mine in
+      let jobs = ap (without_job w.jobs) (number_of w.jobs number j runs) in
       stands_on v v' w (ended w j) d.holds d.faults d.providers d.providers S
       (record { records = refl; journal = refl; area = refl; switching = refl; doubt = refl; append = refl; faults = refl; barred = refl })
       (handed_same d.providers w (ended w j) S.devices.providers refl (λ k. refl)) core g.keeps g.flight
-      (subst (λ (js : List Job). AreRunning s v'.jobs.items js) (sym jobs)
-      (subst (λ (rs : List Running). AreRunning s rs (without_job w.jobs number)) (sym g.jobs)
-      (taken_out s v.jobs.items w.jobs 0 w.next_job number g.place S.core.sound.numbered S.jobs at)))
+      (subst (λ js. AreRunning s v'.jobs.items js) (sym jobs)
+      (rw (← g.jobs) at (taken_out s v.jobs.items w.jobs 0 w.next_job number g.place S.core.sound.numbered
+      S.jobs at)))
       (hands_without s v.core v'.core v.jobs.items w.jobs S.streams (ended w j) core
       (record {
         setup = core.setup ∙ setup_same w (ended w j) refl ∙ sym S.core.setup;
@@ -218,22 +210,19 @@ module _ (v v' : Desk) (number : ℕ) (g : IsAbandoned v v' number) where
 
   -- so the desk is at work
   pub abandoned_works : IsAtWork v → IsAtWork v'
-  abandoned_works at = λ rest are.
-      ∥∥₁_map (at rest are) (λ x.
-      let d = devices None x.1 x.2 in
+  abandoned_works at = λ rest are. ∥∥₁_map (at rest are) (λ x.
       let runs = by_job x.0 x.3.core (job_in v.core.jobs number) refl g.wants in
-      let S = abandoned_stands x.0 d runs.0 x.3 runs.1 in (
+      let S = abandoned_stands x.0 (devices None x.1 x.2) runs.0 x.3 runs.1 in (
         ended x.0 runs.0,
         x.1,
         x.2,
         S,
         λ m stripes j told jobs.
             let h = found_without x.0.jobs number m j
-            (ap (λ (n : ℕ). job_of (without_job x.0.jobs n) m)
+            (ap (λ n. job_of (without_job x.0.jobs n) m)
             (sym (number_of x.0.jobs number runs.0 runs.1)) ∙ jobs) in
-            subst (λ (s : Setup). PutEndsIn (stripes * stripe_size s j.profile) (rest m) j.kind)
-            (sym (setup_same x.0 (ended x.0 runs.0) refl))
-            (x.4 m stripes j (ap told_by (sym (g.others m h.0)) ∙ told) h.1),
+            (rw (← (setup_same x.0 (ended x.0 runs.0) refl)) at (x.4 m stripes j
+            (ap told_by (sym (g.others m h.0)) ∙ told) h.1)),
       ))
     where
       by_job : (w : State) → CoreIs v.core w → (o : Option CoreJob) → job_in v.core.jobs number ≡ o

@@ -21,11 +21,9 @@ module _ (s : Setup) (some : 1 ≤ s.n) where
   opens : (o t m : ℕ) (rest : List Action) → s.n ≡ suc m → GoesOn s.n (Opened o t) rest
       → GoesEitherWay s.n ((map (λ j. Fetch j o t) (range_with_len 0 (suc m)) ++ Work o t ∷ []) ++ rest)
   opens o t m rest n_is on =
-      let more : GoesOn s.n (Fetching o t 1)
-      (map (λ j. Fetch j o t) (range_with_len 1 m) ++ (Work o t ∷ rest)) =
-      fetches-on s.n o t m 1 rest (omega (arith, n_is)) on in
-      let same = append_assoc (map (λ j. Fetch j o t) (range_with_len 1 m)) (Work o t ∷ []) rest in
-      let behind = subst (GoesOn s.n (Fetching o t 1)) (sym same) more in
+      let behind = subst (GoesOn s.n (Fetching o t 1)) (sym (append_assoc
+      (map (λ j. Fetch j o t) (range_with_len 1 m)) (Work o t ∷ []) rest))
+      (fetches-on s.n o t m 1 rest (omega (arith, n_is)) on) in
       record { between = (refl, behind); opened = λ p u. (refl, behind) }
 
   open-on : (o t : ℕ) (rest : List Action) → GoesOn s.n (Opened o t) rest →
@@ -42,8 +40,7 @@ module _ (s : Setup) (some : 1 ≤ s.n) where
   reads-on : (o : ℕ) (ts : List ℕ) (rest : List Action) → GoesEitherWay s.n rest →
       GoesEitherWay s.n (flat_map (open_actions s o) ts ++ rest)
   reads-on o [] rest on = on
-  reads-on o (t ∷ ts) rest on =
-      subst (GoesEitherWay s.n)
+  reads-on o (t ∷ ts) rest on = subst (GoesEitherWay s.n)
       (sym (append_assoc (open_actions s o t) (flat_map (open_actions s o) ts) rest))
       (open-on o t _ ((reads-on o ts rest on).opened o t))
 
@@ -75,8 +72,7 @@ module _ (s : Setup) (some : 1 ≤ s.n) where
       GoesEitherWay s.n (flat_map (λ t. open_actions s o t ++ rewrite_actions s job o t) ts ++ rest)
   stripes-on job o [] rest on = on
   stripes-on job o (t ∷ ts) rest on =
-      subst (GoesEitherWay s.n)
-      (sym (append_assoc (open_actions s o t ++ rewrite_actions s job o t)
+      subst (GoesEitherWay s.n) (sym (append_assoc (open_actions s o t ++ rewrite_actions s job o t)
       (flat_map (λ t. open_actions s o t ++ rewrite_actions s job o t) ts) rest))
       (one-on job o t _ (stripes-on job o ts rest on))
 
@@ -85,11 +81,9 @@ module _ (s : Setup) (some : 1 ≤ s.n) where
       (λ (f : Pinned). on_each_stripe (profiled s f.profile) (length f.bytes)
       (λ t. open_actions s f.id t ++ rewrite_actions s job f.id t)) fs ++ rest)
   files-on job [] rest on = on
-  files-on job (f ∷ fs) rest on =
-      subst (GoesEitherWay s.n)
-      (sym (append_assoc (on_each_stripe (profiled s f.profile) (length f.bytes)
-      (λ t. open_actions s f.id t ++ rewrite_actions s job f.id t))
-      (flat_map (λ (f : Pinned). on_each_stripe (profiled s f.profile) (length f.bytes)
+  files-on job (f ∷ fs) rest on = subst (GoesEitherWay s.n) (sym (append_assoc
+      (on_each_stripe (profiled s f.profile) (length f.bytes) (λ t. open_actions s f.id t ++ rewrite_actions s
+      job f.id t)) (flat_map (λ (f : Pinned). on_each_stripe (profiled s f.profile) (length f.bytes)
       (λ t. open_actions s f.id t ++ rewrite_actions s job f.id t)) fs) rest))
       (stripes-on job f.id (upto (stripes_of (profiled s f.profile) (length f.bytes))) _
       (files-on job fs rest on))
@@ -97,8 +91,7 @@ module _ (s : Setup) (some : 1 ≤ s.n) where
   -- a repair fetches from all providers in order, opens, and then stores, stripe by stripe
   pub repair-order : (job : Job) → job.kind ≡ RepairJob → GoesOn s.n Between (actions_of s job)
   unfolding actions_of
-  repair-order job is =
-      rw is (files-on job job.pinned (append_actions ++ End ∷ [])
+  repair-order job is = rw is (files-on job job.pinned (append_actions ++ End ∷ [])
       (record { between = tt; opened = λ o t. tt })).between
 
 -- ---- how many actions are left
@@ -111,17 +104,15 @@ opens-skip id total k o t (j ∷ js) rest on = opens-skip id total k o t js rest
 -- a get opens its stripes in order, up to the last
 pub get-opens : (s : Setup) (o total m k : ℕ) → k + m ≡ total →
     OpensFrom o total k (flat_map (open_actions s o) (range_with_len k m) ++ End ∷ [])
-get-opens s o total zero k all = (omega (arith, all), tt)
+get-opens s o total zero k all = (omega arith, tt)
 get-opens s o total (suc m) k all =
-    let later : OpensFrom o total (k + 1)
-    (flat_map (open_actions s o) (range_with_len (k + 1) m) ++ End ∷ []) =
-    get-opens s o total m (k + 1) (omega (arith, all)) in
     let fetches = map (λ j. Fetch j o k) (upto s.n) in
     let more = flat_map (open_actions s o) (range_with_len (k + 1) m) in
     subst (OpensFrom o total k)
     (sym (append_assoc (fetches ++ Work o k ∷ []) more (End ∷ [])
     ∙ append_assoc fetches (Work o k ∷ []) (more ++ End ∷ [])))
-    (opens-skip o total k o k (upto s.n) (Work o k ∷ (more ++ End ∷ [])) (refl, refl, later))
+    (opens-skip o total k o k (upto s.n) (Work o k ∷ (more ++ End ∷ []))
+    (refl, refl, get-opens s o total m (k + 1) (omega (arith, all))))
 
 count-fetch : (j o t : ℕ) (rest : List Action) → fetches_left (Fetch j o t ∷ rest) ≡ 1 + fetches_left rest
 count-fetch j o t rest = sum_by-append (λ a. cond (is_fetch a) 1 0) (Fetch j o t ∷ []) rest
@@ -139,8 +130,7 @@ fetches-skip : (o t : ℕ) (js : List ℕ) (rest : List Action) →
     fetches_left (map (λ j. Fetch j o t) js ++ rest) ≡ length js + fetches_left rest
 fetches-skip o t [] rest = omega arith
 fetches-skip o t (j ∷ js) rest =
-    let l = fetches-skip o t js rest in
-    count-fetch j o t (map (λ j. Fetch j o t) js ++ rest) ∙ omega (arith, l)
+    count-fetch j o t (map (λ j. Fetch j o t) js ++ rest) ∙ omega (arith, fetches-skip o t js rest)
 
 works-skip : (o t : ℕ) (js : List ℕ) (rest : List Action) →
     works_left (map (λ j. Fetch j o t) js ++ rest) ≡ works_left rest
@@ -151,8 +141,7 @@ works-skip o t (j ∷ js) rest = skip-fetch j o t (map (λ j. Fetch j o t) js ++
 split-first : (s : Setup) (o k : ℕ) (more : List Action) →
     ((map (λ j. Fetch j o k) (upto s.n) ++ Work o k ∷ []) ++ more) ++ End ∷ []
     ≡ map (λ j. Fetch j o k) (upto s.n) ++ (Work o k ∷ (more ++ End ∷ []))
-split-first s o k more =
-    append_assoc (map (λ j. Fetch j o k) (upto s.n) ++ Work o k ∷ []) more (End ∷ [])
+split-first s o k more = append_assoc (map (λ j. Fetch j o k) (upto s.n) ++ Work o k ∷ []) more (End ∷ [])
     ∙ append_assoc (map (λ j. Fetch j o k) (upto s.n)) (Work o k ∷ []) (more ++ End ∷ [])
 
 -- a get has one fetch from each provider for each stripe that is left
@@ -161,9 +150,8 @@ pub get-fetches : (s : Setup) (o m k : ℕ) →
 get-fetches s o zero k = omega arith
 get-fetches s o (suc m) k =
     let more = flat_map (open_actions s o) (range_with_len (k + 1) m) in
-    let l = get-fetches s o m (k + 1) in
     ap fetches_left (split-first s o k more) ∙ fetches-skip o k (upto s.n) (Work o k ∷ (more ++ End ∷ []))
-    ∙ (let c = skip-work o k (more ++ End ∷ []) in omega (arith, l, c, length-range_with_len 0 s.n))
+    ∙ (omega (arith, get-fetches s o m (k + 1), skip-work o k (more ++ End ∷ []), length-range_with_len 0 s.n))
 
 -- a get has one work for each stripe that is left
 pub get-works : (s : Setup) (o m k : ℕ) →
@@ -171,6 +159,5 @@ pub get-works : (s : Setup) (o m k : ℕ) →
 get-works s o zero k = refl
 get-works s o (suc m) k =
     let more = flat_map (open_actions s o) (range_with_len (k + 1) m) in
-    let l = get-works s o m (k + 1) in
     ap works_left (split-first s o k more) ∙ works-skip o k (upto s.n) (Work o k ∷ (more ++ End ∷ []))
-    ∙ (count-work o k (more ++ End ∷ []) ∙ omega (arith, l))
+    ∙ (count-work o k (more ++ End ∷ []) ∙ omega (arith, get-works s o m (k + 1)))

@@ -64,8 +64,7 @@ module _ (v : Desk) (quiet : IsQuiet v) (w : State) (d : Devices) (S : DeskStand
 
     -- what it writes is the packed journal
     pub writes : WritesText (other_area w.area) (packed w.journal) p
-    writes = subst (λ (qs : List Record). WritesText (other_area w.area) qs p)
-        (packed-folds w.journal v.core.table S.core.table) (text.writes w.area S.base)
+    writes = rw (packed-folds w.journal v.core.table S.core.table) at (text.writes w.area S.base)
 
     pub sound : IsSound 8 (switched w)
     sound = switched-sound w S.core.is_open unbarred idle second S.core.sound
@@ -81,39 +80,32 @@ module _ (v : Desk) (quiet : IsQuiet v) (w : State) (d : Devices) (S : DeskStand
         → CoreIs v'.core (switched w) → AreDevices e (switched w)
         → IfSome e.holds (StandsFirm (other_area w.area) (packed w.journal)) → DeskStands v' e (switched w)
     unfolding setup_in
-    moved-stands v' e is core devices firm =
-        let flies : v.flight ≡ None = quiet.flight in
-        subst (λ (x : Desk). DeskStands x e (switched w)) (sym is) (record {
-          devices = devices;
-          core = core;
-          base = writes.to;
-          setup = S.setup;
-          shaped = record { n = S.shaped.n; l = S.shaped.l; b = S.shaped.b };
-          jobs = S.jobs;
-          streams = λ number t job tasks runs. absurd (found_none w.jobs number job idle runs);
-          flight = λ free. rw (flies, clear) firm;
-        })
+    moved-stands v' e is core devices firm = subst (λ x. DeskStands x e (switched w)) (sym is) (record {
+      devices = devices;
+      core = core;
+      base = writes.to;
+      setup = S.setup;
+      shaped = record { n = S.shaped.n; l = S.shaped.l; b = S.shaped.b };
+      jobs = S.jobs;
+      streams = λ number t job tasks runs. absurd (found_none w.jobs number job idle runs);
+      flight = λ free. rw (quiet.flight, clear) firm;
+    })
 
 -- so it goes on to be at work
 pub moved-works : (v v' : Desk) (p : Pack) → IsQuiet v → IsPackText v p
     → v' ≡ record v { base = to_of p; core = v'.core }
     → ((w : State) (d : Devices) → DeskStands v d w → CoreIs v'.core (switched w)) → IsAtWork v → IsAtWork v'
-moved-works v v' p quiet text is core at = λ rest bytes.
-    ∥∥₁_map (at rest bytes) (λ x. (
-      switched x.0,
-      x.1,
-      x.2,
-      moved-stands v quiet x.0 (devices None x.1 x.2) x.3 p text v' (devices None x.1 x.2) is
-          (core x.0 (devices None x.1 x.2) x.3)
-          (record {
-            images = tt;
-            faults = x.3.devices.faults;
-            providers = record {
-              count = x.3.devices.providers.count;
-              each = x.3.devices.providers.each;
-            };
-          })
-          tt,
-      λ number stripes job told runs.
-          absurd (found_none x.0.jobs number job (idle v quiet x.0 (devices None x.1 x.2) x.3) runs),
-    ))
+moved-works v v' p quiet text is core at = λ rest bytes. ∥∥₁_map (at rest bytes) (λ x. (
+  switched x.0,
+  x.1,
+  x.2,
+  moved-stands v quiet x.0 (devices None x.1 x.2) x.3 p text v' (devices None x.1 x.2) is
+      (core x.0 (devices None x.1 x.2) x.3) (record {
+        images = tt;
+        faults = x.3.devices.faults;
+        providers = record { count = x.3.devices.providers.count; each = x.3.devices.providers.each };
+      })
+      tt,
+  λ number stripes job told runs.
+      absurd (found_none x.0.jobs number job (idle v quiet x.0 (devices None x.1 x.2) x.3) runs),
+))

@@ -21,11 +21,9 @@ other_counts p q h =
 -- what a fetch left is a block
 pub taken : (t u : Task) (found : Bool) (block : List ℕ) → TakesFetch t u found block
     → IfSome (given_of found block) (IsBlock (fetch_size t))
-taken (task.Get t) (task.Get u) found block takes =
-    if_given (IsBlock t.fetched.blocks.size) found block
+taken (task.Get t) (task.Get u) found block takes = if_given (IsBlock t.fetched.blocks.size) found block
     (record { size_is = takes.1.blocks.fits; symbols = takes.1.blocks.numbers })
-taken (task.Repair t) (task.Repair u) found block takes =
-    if_given (IsBlock t.blocks.size) found block
+taken (task.Repair t) (task.Repair u) found block takes = if_given (IsBlock t.blocks.size) found block
     (record { size_is = takes.1.fits; symbols = takes.1.numbers })
 taken t u found block takes = absurd takes
 

@@ -17,7 +17,7 @@ pub use Rattle.std.proofs.lemmas.Result.{IfOk-weaker}
 pub use Rattle.std.proofs.lemmas.Slice.Zip.{AllZip-long}
 pub use Rattle.std.specs.Int.{from_le_bytes, to_le_bytes, w128}
 pub use Rattle.std.specs.List.{AllZip, Contains, flat_map, list_all, list_any, position_from, range_with_len, remove}
-pub use Rattle.std.specs.Option.{option_copied, option_map}
+pub use Rattle.std.specs.Option.{option_map}
 pub use Rattle.std.specs.Prelude.{IfOk, IfSome, if◌then◌else◌, is_some, IsErr, IsErrOf, IsSome, IsTrue, nat_le, nat_lt, not, OnErr, OnOk, position, slice_get, slice_set}
 pub use Rattle.algebra_laws.proofs.Each.{each_append, each_at_most, each_flat, each_get, each_map, each_middle, each_zero, in_contains}
 pub use Rattle.algebra_laws.proofs.Lists.{get-set_other, get-set_same, get-set_there, map-range_same}
@@ -31,7 +31,7 @@ pub use Rattle.column_codec.specs.Bench.{bench_object, turned}
 pub use Rattle.column_codec.specs.PresentBlocks.{present_blocks}
 pub use Rattle.column_codec.specs.declared.bench.Bench.{Bench}
 pub use Rattle.column_defs.proofs.SymbolBytes.{bytes_of_symbols-more, length-bytes_of_symbols, length-symbol}
-pub use Rattle.column_defs.specs.Challenges.{bare_answers, Challenge, challenge_of, honest_answer}
+pub use Rattle.column_defs.specs.Challenges.{bare_answers, challenge_of, honest_answer}
 pub use Rattle.column_defs.specs.Objects.{bytes_of_symbols, Object, points, stripe_symbols, stripes, symbols_in}
 unfoldable pub use Rattle.column_defs.specs.Objects.{symbol_of}
 pub use Rattle.column_defs.specs.Verdicts.{Judges, Sums}
@@ -55,7 +55,7 @@ pub use Rattle.machine_defs.proofs.JobLists.{cond_false, cond_true, found_itself
 pub use Rattle.machine_defs.proofs.Sights.{length-aims, stored-file}
 pub use Rattle.machine_defs.specs.Actions.{actions_by, actions_left, append_actions, ask_actions, End, Fetch, machine_pins, on_each_provider, on_each_stripe, open_actions, Plan, read_actions, Remove, remove_actions, repair_actions, rewrite_actions, rounds_of, store_actions, SyncBody, SyncGate, Work, WriteBody, WriteGate}
 unfoldable pub use Rattle.machine_defs.specs.Actions.{actions_of}
-pub use Rattle.machine_defs.specs.Alone.{alone_refusal, barred_pack, pack_causes, reaches_over, new_pack, new_scrub, pack_refusal, packing, switched, switching, unalone}
+pub use Rattle.machine_defs.specs.Alone.{alone_refusal, barred_pack, pack_causes, reaches_over, new_pack, new_scrub, pack_refusal, packing, switched, unalone}
 pub use Rattle.machine_defs.specs.Appends.{barred, begun_append, done_append, doubted, is_first_append, IsAt, moved, Moves, subject_drawn, taken_out, unappended, Writes}
 pub use Rattle.machine_defs.specs.Audits.{asked_challenge, challenge_in, HasSums, JudgesFiles, JudgesRound, JudgesRounds}
 pub use Rattle.machine_defs.specs.Begins.{begin_refusal, beginning, BeginsAt, chosen, new_job, pin_all, pin_by, pin_each, pin_found, pinned_file, refusal_of_begin}
@@ -102,11 +102,11 @@ pub use Rattle.vault_core.proofs.Alike.{table-like}
 pub use Rattle.vault_core.proofs.Onward.{asks_ask}
 unfoldable pub use Rattle.vault_core.proofs.Onward.{IsAnAsk}
 pub use Rattle.vault_core.proofs.Pairs.{pair_some}
-pub use Rattle.vault_core.specs.Carried.{ComesNext, CoreIs, HasTold, is_audit_kind, IsCoreFlight, IsEntryOf, IsJobOf, IsKindOf, IsPutFrom, job_begun, pin_of, refusal_of, seen_plan, shown}
+pub use Rattle.vault_core.specs.Carried.{ComesNext, CoreIs, HasTold, is_audit_kind, IsCoreFlight, IsEntryOf, IsJobOf, IsKindOf, job_begun, pin_of, refusal_of, seen_plan, shown}
 pub use Rattle.vault_core.specs.Coming.{asks_next, called_provider, calls_disk, Coming, core_left, entry_in, HasReply, is_last_ask, is_last_ask_of, is_move, IsBarred, IsNoJob, next_in, next_of, seen_action, TakesReply}
 pub use Rattle.vault_core.specs.Replies.{Tells}
 pub use Rattle.vault_core.specs.Streams.{FitsAim, FitsGiven, IsGivenLength, stripe_size}
-pub use Rattle.vault_core.specs.View.{CoreJob, CoreView, HasNoStream, job_in, rest_in, told_by, told_in, wanted_at, wanted_by, wants_in}
+pub use Rattle.vault_core.specs.View.{CoreJob, CoreView, HasNoStream, job_in, told_by, told_in, wanted_at, wanted_by, wants_in}
 pub use Rattle.vault_core.specs.declared.pinned.Pinned.{Pinned as PinnedFile, Pinned as PinnedValue}
 pub use Rattle.vault_core.specs.declared.reply.Reply.{Reply}
 pub use Rattle.vault_core.specs.declared.wish.BeginFault.{BeginFault}
@@ -133,7 +133,7 @@ pub use Rattle.vault.specs.Rounds.{asked_after, AsksOn, JudgesEach, Round, round
 pub use Rattle.vault.specs.Running.{heard_of, IsFed, IsSameDesk, IsStopped, KeepsAll, place_in, RunsIn}
 pub use Rattle.vault.specs.Stands.{MakesBegin, MakesStep, Stands, StandsBeside}
 pub use Rattle.vault.specs.Storing.{IsStorer, KeepsTask, stored_block}
-pub use Rattle.vault.specs.Streams.{FitsKind, FitsPiece, HasPieceAt, IsPiece, OpensStream, stripe_by, stripe_of}
+pub use Rattle.vault.specs.Streams.{FitsKind, FitsPiece, HasPieceAt, IsPiece, OpensStream, stripe_by}
 pub use Rattle.vault.specs.Tasks.{answered_gifts, AreOfSetup, AreRunning, empty_sums, fetched_in, HasAnswered, HasBenchFor, HasFetched, IsAsked, IsAtHand, IsAudit, IsGet, IsInWork, IsPutTask, IsRepair, IsRunning, IsStream, IsTask, OneHas}
 pub use Rattle.vault.specs.declared.desk.Desk.{Desk}
 pub use Rattle.vault.specs.declared.flight.Flight.{Flight}

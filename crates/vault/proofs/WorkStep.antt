@@ -1,5 +1,5 @@
 -- The work on a stripe is a step of the machine.
-use Rattle.vault.proofs.Words.{◌≡◌, ℕ, zero, suc, ◌+◌, ◌*◌, ◌^◌, ◌≤◌, Vec, Global, cond, List, [], ◌∷◌, ◌++◌, drop, Some, None, Result, Ok, Err, refl, sym, ap, subst, ◌∙◌, arith, length-append, slice_get, slice_set, flat_map, range_with_len, append-nil, sum_by-cons, upto, Object, bytes_of_symbols, stripe_symbols, length-bytes_of_symbols, Work, actions_of, actions_left, blocks_given, symbols_given, pinned_profile, Kind, PutJob, DropJob, AuditJob, UpgradeJob, Given, Worked, Job, advanced_with, without_job, State, setup_in, worked_object, going_on, ended, next_action, number_of, next-left, ComesNext, GetTask, RepairTask, Running, Task, Turn, Desk, Devices, entries_fetched, work_blocks, OpensRows, LosesWork, TakesWork, KeepsHeard, WorksAs, CanWork, Phase, Between, Fetching, Opened, fetches_left, works_left, is_fetch, is_work, place_in, heard_of, KeepsAll, IsFed, IsStopped, DeskStands, Comes, DeskMakesStep, Bench, bench_object, turned, IsBench, AreOfSetup, HasBenchFor, IsAtHand, IsGet, IsRepair, IsTask, IsRunning, HasFetched, worked_is, worked_other, handed_same}
+use Rattle.vault.proofs.Words.{◌≡◌, ℕ, zero, suc, ◌+◌, ◌*◌, ◌^◌, ◌≤◌, cond, List, [], ◌∷◌, ◌++◌, drop, Some, None, Result, Ok, Err, refl, sym, ap, subst, ◌∙◌, arith, length-append, slice_get, slice_set, flat_map, range_with_len, append-nil, sum_by-cons, upto, Object, bytes_of_symbols, stripe_symbols, length-bytes_of_symbols, Work, actions_of, actions_left, blocks_given, symbols_given, pinned_profile, Kind, PutJob, DropJob, AuditJob, UpgradeJob, Given, Worked, Job, advanced_with, without_job, State, setup_in, worked_object, going_on, ended, next_action, number_of, next-left, ComesNext, GetTask, RepairTask, Running, Task, Turn, Desk, Devices, entries_fetched, work_blocks, OpensRows, LosesWork, TakesWork, KeepsHeard, WorksAs, CanWork, Phase, Fetching, Opened, fetches_left, works_left, is_fetch, is_work, place_in, heard_of, KeepsAll, IsFed, IsStopped, DeskStands, Comes, DeskMakesStep, Bench, bench_object, turned, IsBench, IsAtHand, IsGet, IsRepair, IsTask, IsRunning, HasFetched, worked_is, worked_other, handed_same}
 use Rattle.std.proofs.Common.{length}
 use Rattle.std.specs.Prelude.{vec_len, vec_capacity}
 use Rattle.std.proofs.lemmas.Grind.{flat_map-append}
@@ -29,9 +29,8 @@ kept : (id k from len : ℕ) (rows : List ℕ) (given : List Given) → from + l
     (range_with_len from len)
 kept id k from zero rows given below = refl
 kept id k from (suc len) rows given below =
-    (λ i. bytes_of_symbols
-    (worked_other id k id from rows given (λ e. absurd (omega (arith, below, e))) i) ++ kept id k
-    (from + 1) len rows given (omega (arith, below)) i)
+    (λ i. bytes_of_symbols (worked_other id k id from rows given (λ e. absurd (omega (arith, below, e))) i) ++
+    kept id k (from + 1) len rows given (omega (arith, below)) i)
 
 -- the bytes of one stripe more
 bytes_after : (id k : ℕ) (rows bytes : List ℕ) (given : List Given) →
@@ -49,8 +48,7 @@ bytes_after id k rows bytes given is =
 
 module _ (w : State) (job : Job) (o s : ℕ) (next : next_action w job ≡ Some (Work o s)) where
   not_allowed : (kind : Kind) → job.kind ≡ kind → IsAllowed (setup_in w).n kind (Work o s)
-  not_allowed kind is =
-      subst (λ (x : Kind). IsAllowed (setup_in w).n x (Work o s)) is (next_allowed w job (Work o s) next)
+  not_allowed kind is = rw is at (next_allowed w job (Work o s) next)
 
   left_is : actions_left (setup_in w) job ≡ Work o s ∷ drop (job.place + 1) (actions_of (setup_in w) job)
   left_is = next-left w job (Work o s) next (λ e. absurd (let f : ⊥ = cc in f))
@@ -89,15 +87,13 @@ module _ (w : State) (job : Job) (o s : ℕ) (next : next_action w job ≡ Some 
           let n = bench_count (setup_in w) is.file.profile t.bench is.bench in (
             record {
               size = is.size;
-              present = subst (λ (m : ℕ). m ≤ length t.fetched.blocks.present.items) (sym n)
-                  (enough_present (setup_in w).n o s t.fetched.blocks job.given has);
-              symbols = subst (λ (m : ℕ). m * t.fetched.blocks.size ≤ length t.fetched.blocks.symbols.items)
-                  (sym n) (enough_symbols (setup_in w).n o s t.fetched.blocks job.given has);
+              present = rw (← n) at (enough_present (setup_in w).n o s t.fetched.blocks job.given has);
+              symbols = rw (← n) at (enough_symbols (setup_in w).n o s t.fetched.blocks job.given has);
             },
             omega (
               arith,
               is.room_bytes,
-              ap (λ (m : ℕ). m * (16 * stripe_symbols (bench_object t.bench))) works_are,
+              ap (λ m. m * (16 * stripe_symbols (bench_object t.bench))) works_are,
             ),
           )
       by_task task.Drop is = absurd (not_allowed (DropJob is.name) is.kind)
@@ -108,26 +104,20 @@ module _ (w : State) (job : Job) (o s : ℕ) (next : next_action w job ≡ Some 
           let n = first_count (setup_in w) t.bench t.others.items is.benches in
           record {
             size = is.size;
-            present = subst (λ (m : ℕ). m ≤ length t.blocks.present.items) (sym n)
-                (enough_present (setup_in w).n o s t.blocks job.given has);
-            symbols = subst (λ (m : ℕ). m * t.blocks.size ≤ length t.blocks.symbols.items) (sym n)
-                (enough_symbols (setup_in w).n o s t.blocks job.given has);
+            present = rw (← n) at (enough_present (setup_in w).n o s t.blocks job.given has);
+            symbols = rw (← n) at (enough_symbols (setup_in w).n o s t.blocks job.given has);
           }
 
   get_blocks : (t : GetTask) → IsGet (setup_in w) t job (Work o s ∷ tail) →
       work_blocks (task.Get t) ≡ blocks_given job.given (setup_in w).n o s
-  get_blocks t is =
-      subst (λ (m : ℕ). Rattle.stripe_bench.specs.Blocks.last_blocks m t.fetched.blocks
-      ≡ blocks_given job.given (setup_in w).n o s)
-      (sym (bench_count (setup_in w) is.file.profile t.bench is.bench))
+  get_blocks t is = subst (λ m. Rattle.stripe_bench.specs.Blocks.last_blocks m t.fetched.blocks ≡ blocks_given
+      job.given (setup_in w).n o s) (sym (bench_count (setup_in w) is.file.profile t.bench is.bench))
       (last_is (setup_in w).n o s t.fetched.blocks job.given (get_fetched t is))
 
   repair_blocks : (t : RepairTask) → IsRepair (setup_in w) t job (Work o s ∷ tail) →
       work_blocks (task.Repair t) ≡ blocks_given job.given (setup_in w).n o s
-  repair_blocks t is =
-      subst (λ (m : ℕ). Rattle.stripe_bench.specs.Blocks.last_blocks m t.blocks
-      ≡ blocks_given job.given (setup_in w).n o s)
-      (sym (first_count (setup_in w) t.bench t.others.items is.benches))
+  repair_blocks t is = subst (λ m. Rattle.stripe_bench.specs.Blocks.last_blocks m t.blocks ≡ blocks_given
+      job.given (setup_in w).n o s) (sym (first_count (setup_in w) t.bench t.others.items is.benches))
       (last_is (setup_in w).n o s t.blocks job.given (repair_fetched t is))
 
   -- the bench of a get is that of the object
@@ -140,11 +130,10 @@ module _ (w : State) (job : Job) (o s : ℕ) (next : next_action w job ≡ Some 
   at_hand : (phase : Phase) (bench : Bench) → GoesOn (setup_in w).n phase (Work o s ∷ tail) →
       IsAtHand (setup_in w) job.pinned phase bench →
       IsBench (setup_in w) (pinned_profile (setup_in w).profile job.pinned o) bench
-  at_hand Between bench order at = absurd order
-  at_hand (Opened p t) bench order at = absurd order
   at_hand (Fetching p t c) bench order at =
       subst (λ (q : ℕ). IsBench (setup_in w) (pinned_profile (setup_in w).profile job.pinned q) bench)
       (sym order.1) at
+  at_hand _ bench order at = absurd order
 
   repair_turned : (t : RepairTask) → IsRepair (setup_in w) t job (Work o s ∷ tail) →
       turned t.bench o ≡ worked_object w job o
@@ -165,14 +154,12 @@ module _ (w : State) (job : Job) (o s : ℕ) (next : next_action w job ≡ Some 
       by_task : (t u : Task) → IsTask (setup_in w) job (Work o s ∷ tail) t → OpensRows t u o s →
           GivesSymbols (worked_object w job o) s (blocks_given job.given (setup_in w).n o s) (rows_of u)
       by_task (task.Get t) (task.Get u) is opens =
-          subst (λ (x : Object). GivesSymbols x s (blocks_given job.given (setup_in w).n o s)
-          u.bench.rows.items) (get_turned t is)
-          (subst (λ (l : List SeenBlock). GivesSymbols (turned t.bench o) s l u.bench.rows.items)
+          subst (λ x. GivesSymbols x s (blocks_given job.given (setup_in w).n o s) u.bench.rows.items)
+          (get_turned t is) (subst (λ l. GivesSymbols (turned t.bench o) s l u.bench.rows.items)
           (get_blocks t is) opens)
       by_task (task.Repair t) (task.Repair u) is opens =
-          subst (λ (x : Object). GivesSymbols x s (blocks_given job.given (setup_in w).n o s)
-          u.bench.rows.items) (repair_turned t is)
-          (subst (λ (l : List SeenBlock). GivesSymbols (turned t.bench o) s l u.bench.rows.items)
+          subst (λ x. GivesSymbols x s (blocks_given job.given (setup_in w).n o s) u.bench.rows.items)
+          (repair_turned t is) (subst (λ l. GivesSymbols (turned t.bench o) s l u.bench.rows.items)
           (repair_blocks t is) opens)
       by_task t u is opens = absurd opens
 
@@ -183,14 +170,10 @@ module _ (w : State) (job : Job) (o s : ℕ) (next : next_action w job ≡ Some 
     where
       by_task : (t : Task) → IsTask (setup_in w) job (Work o s ∷ tail) t → LosesWork t o s row →
           LosesRow (worked_object w job o) s (blocks_given job.given (setup_in w).n o s) row
-      by_task (task.Get t) is lost =
-          subst (λ (x : Object). LosesRow x s (blocks_given job.given (setup_in w).n o s) row)
-          (get_turned t is)
-          (subst (λ (l : List SeenBlock). LosesRow (turned t.bench o) s l row) (get_blocks t is) lost)
-      by_task (task.Repair t) is lost =
-          subst (λ (x : Object). LosesRow x s (blocks_given job.given (setup_in w).n o s) row)
-          (repair_turned t is)
-          (subst (λ (l : List SeenBlock). LosesRow (turned t.bench o) s l row) (repair_blocks t is) lost)
+      by_task (task.Get t) is lost = (rw (get_turned t is) at
+          (subst (λ (l : List SeenBlock). LosesRow (turned t.bench o) s l row) (get_blocks t is) lost))
+      by_task (task.Repair t) is lost = (rw (repair_turned t is) at
+          (subst (λ (l : List SeenBlock). LosesRow (turned t.bench o) s l row) (repair_blocks t is) lost))
       by_task t is lost = absurd lost
 
   -- ---- what a job works with, after
@@ -214,7 +197,6 @@ module _ (w : State) (job : Job) (o s : ℕ) (next : next_action w job ≡ Some 
         ap stripe_symbols (get_turned t is) in
         let per' : stripe_symbols (bench_object u.bench) ≡ stripe_symbols (worked_object w job o) =
         ap stripe_symbols turned_to in
-        let works = ap (λ (m : ℕ). m * (16 * stripe_symbols (bench_object t.bench))) works_are in
         record {
           name = is.name;
           kind = is.kind;
@@ -235,12 +217,10 @@ module _ (w : State) (job : Job) (o s : ℕ) (next : next_action w job ≡ Some 
           in_work = rows_is ∙ worked_is o s rows job.given;
           opened = is.opened + 1;
           opens = is.opens.2;
-          count =
-              ap (λ (f : Fetches). length f.blocks.present.items) moved ∙ is.count
+          count = ap (λ (f : Fetches). length f.blocks.present.items) moved ∙ is.count
               ∙ ap (λ (m : ℕ). is.opened * st.n + m) (all_counted st.n o s tail is.phase is.order)
               ∙ (let e : is.opened * st.n + st.n ≡ (is.opened + 1) * st.n + 0 = omega arith in e);
-          bytes =
-              takes.3 ∙ ap (λ (l : List ℕ). t.bytes.items ++ bytes_of_symbols l) rows_is
+          bytes = takes.3 ∙ ap (λ (l : List ℕ). t.bytes.items ++ bytes_of_symbols l) rows_is
               ∙ bytes_after is.file.id is.opened rows t.bytes.items job.given is.bytes
               ∙ (λ i. flat_map (λ t. bytes_of_symbols
               (symbols_given (Worked ((sym is.opens.0) i) ((sym is.opens.1) i) rows ∷ job.given)
@@ -252,32 +232,18 @@ module _ (w : State) (job : Job) (o s : ℕ) (next : next_action w job ≡ Some 
           room_symbols = subst (λ (f : Fetches). vec_len f.blocks.symbols + fetches_left
               tail * f.blocks.size ≤ vec_capacity f.blocks.symbols) (sym moved)
               (omega (arith, is.room_symbols, ap (λ (m : ℕ). m * t.fetched.blocks.size) fetches_are));
-          room_bytes = room t u is.room_bytes takes.4 works long (size ∙ sym per) (per' ∙ sym per);
+          room_bytes = omega (
+            arith,
+            is.room_bytes,
+            takes.4,
+            ap (λ (m : ℕ). m * (16 * stripe_symbols (bench_object t.bench))) works_are,
+            long,
+            size ∙ sym per,
+            ap (λ (m : ℕ). works_left tail * (16 * m)) (per' ∙ sym per),
+            t.bytes.ok.0,
+            u.bytes.ok.0,
+          );
         }
-      where
-        room : (t u : GetTask) →
-            vec_len t.bytes + works_left
-            (Work o s ∷ tail) * (16 * stripe_symbols (bench_object t.bench)) ≤ vec_capacity t.bytes →
-            vec_capacity t.bytes ≤ vec_capacity u.bytes
-            → works_left (Work o s ∷ tail) * (16 * stripe_symbols (bench_object t.bench))
-            ≡ (1 + works_left tail) * (16 * stripe_symbols (bench_object t.bench)) →
-            length u.bytes.items ≡ length t.bytes.items + 16 * length rows
-            → length rows ≡ stripe_symbols (bench_object t.bench) →
-            stripe_symbols (bench_object u.bench) ≡ stripe_symbols (bench_object t.bench)
-            → vec_len u.bytes + works_left tail * (16 * stripe_symbols (bench_object u.bench)) ≤ vec_capacity
-            u.bytes
-        room t u old more works long per same =
-            omega (
-              arith,
-              old,
-              more,
-              works,
-              long,
-              per,
-              ap (λ (m : ℕ). works_left tail * (16 * m)) same,
-              t.bytes.ok.0,
-              u.bytes.ok.0,
-            )
 
     repair_after : (t u : RepairTask) → IsRepair (setup_in w) t job (Work o s ∷ tail) →
         TakesWork (task.Repair t) (task.Repair u) o → u.bench.rows.items ≡ rows →
@@ -287,20 +253,17 @@ module _ (w : State) (job : Job) (o s : ℕ) (next : next_action w job ≡ Some 
         let emptied = takes.0 in
         record {
           kind = is.kind;
-          benches = subst (λ (l : Vec Bench Global). AreOfSetup st (u.bench ∷ l.items)) (sym takes.2)
-              (own_after st t.bench u.bench t.others.items o is.benches takes.1);
-          each = λ q. subst (λ (l : Vec Bench Global). HasBenchFor st
-              (pinned_profile st.profile job.pinned q) (u.bench ∷ l.items)) (sym takes.2)
-              (serves_after st (pinned_profile st.profile job.pinned q) t.bench u.bench t.others.items o
-              (is.each q) takes.1);
+          benches = rw (← takes.2) at (own_after st t.bench u.bench t.others.items o is.benches takes.1);
+          each = λ q. (rw (← takes.2) at (serves_after st (pinned_profile st.profile job.pinned q) t.bench
+              u.bench t.others.items o (is.each q) takes.1));
           bench = bench_after st (pinned_profile st.profile job.pinned o) t.bench u.bench o
               (at_hand is.phase t.bench is.order is.bench) takes.1;
-          size = emptied.size ∙ is.size ∙ sym (ap (λ (x : Object). x.profile.size) takes.1);
+          size = emptied.size ∙ is.size ∙ sym (ap (λ x. x.profile.size) takes.1);
           phase = Opened o s;
           order = order_opened st.n o s tail t.blocks t.bench.rows.items job.given is.phase is.order;
           in_work = rows_is ∙ worked_is o s rows job.given;
           present = ap length emptied.present;
-          symbols = ap length emptied.symbols ∙ (let e : 0 ≡ 0 * u.blocks.size = omega arith in e);
+          symbols = ap length emptied.symbols ∙ (omega arith);
           room_present = omega (arith, is.room_present, emptied.present_room);
           room_symbols = omega (arith, is.room_symbols, emptied.symbols_room);
         }
@@ -311,9 +274,8 @@ module _ (w : State) (job : Job) (o s : ℕ) (next : next_action w job ≡ Some 
       IsRunning (setup_in w) r' (advanced_with job (Worked o s (rows_of r'.task)))
   runs_on r r' running number opens takes = record {
     number = number ∙ running.number;
-    task = subst (λ (l : List Action). IsTask (setup_in w)
-        (advanced_with job (Worked o s (rows_of r'.task))) l r'.task)
-        (sym (ap (drop (job.place + 1))
+    task = subst (λ (l : List Action). IsTask (setup_in w) (advanced_with job (Worked o s (rows_of r'.task)))
+        l r'.task) (sym (ap (drop (job.place + 1))
         (actions_same (setup_in w) job (job.place + 1) (Worked o s (rows_of r'.task) ∷ job.given))))
         (by_task r.task r'.task (listed r running) (gives r r'.task running opens).size takes);
   }
@@ -359,13 +321,13 @@ module _ (v : Desk) (w : State) (d : Devices) (moment number o s : ℕ) (stands 
           let new : State = going_on w (advanced_with coming.job (Worked o s rows)) in
           let on = runs_on w coming.job o s coming.comes r r' runs same_number done.0 done.1 in
           goes_on v v' w new d.holds d.faults moment number place d.providers d.providers (Work o s) r r'
-          (advanced_with coming.job (Worked o s rows)) stands coming
+          (advanced_with coming.job (Worked o s rows)) reply.Done stands coming
           (rows, gives w coming.job o s coming.comes r r'.task runs done.0, refl)
           (record { records = refl; journal = refl; area = refl; switching = refl; doubt = refl; append = refl; faults = refl; barred = refl })
           refl refl
           on at there jobs
           (handed_same d.providers w new stands.devices.providers refl (λ j. refl))
-          keeps_all flight fed
+          keeps_all flight fed tt
           (record {
             wants = comes.wants;
             number_is = same_number;
@@ -378,20 +340,18 @@ module _ (v : Desk) (w : State) (d : Devices) (moment number o s : ℕ) (stands 
 
       -- a row that is lost ends the job
       pub lost_step : (v1 v2 : Desk) (turn : Turn) (row : ℕ) (result : Result Unit RowLost) (lost : RowLost) →
-          result ≡ Err lost → row ≡ lost.row → WorksAs r.task r'.task o s result
-          → v1.core ≡ v.core → v1.jobs.items ≡ slice_set v.jobs.items place r' → KeepsAll v v1 →
-          v1.flight ≡ v.flight
-          → IsStopped v1 number (reply.Lost row) (answer.Lost s row) turn v2 →
+          result ≡ Err lost → row ≡ lost.row → WorksAs r.task r'.task o s result → v1.core ≡ v.core →
+          v1.jobs.items ≡ slice_set v.jobs.items place r' → KeepsAll v v1 → v1.flight ≡ v.flight →
+          IsStopped v1 number (reply.Lost row) (answer.Lost s row) turn v2 →
           DeskMakesStep w moment number turn v2 d d
       lost_step v1 v2 turn row result lost is row_is works core jobs keeps_all flight stopped =
-          let loss : LosesWork r.task o s lost.row × KeepsHeard r.task r'.task =
-          subst (λ (y : Result Unit RowLost). WorksAs r.task r'.task o s y) is works in
-          let new : State = ended w coming.job in
+          let loss =
+          rw is at works in
+          let new = ended w coming.job in
           ends_by v v1 v2 w new d.holds d.faults moment number place d.providers d.providers (Work o s) r r'
           (reply.Lost row) (answer.Lost s row) turn stands coming (
             refl,
-            loses w coming.job o s coming.comes r row runs
-                (subst (λ (m : ℕ). LosesWork r.task o s m) (sym row_is) loss.0),
+            loses w coming.job o s coming.comes r row runs (rw (← row_is) at loss.0),
             refl,
           )
           (record { records = refl; journal = refl; area = refl; switching = refl; doubt = refl; append = refl; faults = refl; barred = refl })

@@ -1,7 +1,7 @@
 -- The work on a stripe, of a get or a repair.
-use Rattle.vault.proofs.Words.{◌≡◌, ℕ, ◌+◌, ◌*◌, ◌-◌, ◌≤◌, List, [], ◌∷◌, ◌++◌, drop, map, sym, ap, subst, ◌∙◌, arith, length-append, range_with_len, drop-append_seam, present_blocks, length-present_blocks, WriteBody, SyncBody, WriteGate, SyncGate, Fetch, Work, Remove, End, block_given, blocks_given, Given, Blocks, last_blocks, Phase, Between, Fetching, Opened, OpensFrom, gifts_give, HasFetched, IsInWork, fetched_in}
+use Rattle.vault.proofs.Words.{◌≡◌, ℕ, ◌+◌, ◌*◌, ◌-◌, ◌≤◌, List, ◌∷◌, ◌++◌, drop, map, sym, ap, subst, ◌∙◌, arith, length-append, range_with_len, drop-append_seam, present_blocks, length-present_blocks, Fetch, Work, block_given, blocks_given, Given, Blocks, last_blocks, Phase, Fetching, Opened, OpensFrom, gifts_give, HasFetched, IsInWork, fetched_in}
 use Rattle.std.proofs.Common.{length}
-use Rattle.machine_defs.specs.Actions.{Action, Store, Ask}
+use Rattle.machine_defs.specs.Actions.{Action}
 use Rattle.vault.specs.Orders.{GoesOn}
 
 -- ---- the last blocks
@@ -16,26 +16,21 @@ module _ (n o s : ℕ) (tail : List Action) (b : Blocks) (rows : List ℕ) (give
   -- before the work each provider's block is fetched
   pub all_fetched : (phase : Phase) → GoesOn n phase (Work o s ∷ tail) → IsInWork phase b rows given →
       HasFetched o s n b given
-  all_fetched Between order work = absurd order
-  all_fetched (Opened p t) order work = absurd order
-  all_fetched (Fetching p t c) order work =
-      subst (λ (m : ℕ). HasFetched o s m b given) order.0
-      (subst (λ (m : ℕ). HasFetched m s c b given) (sym order.1)
-      (subst (λ (m : ℕ). HasFetched p m c b given) (sym order.2) work))
+  all_fetched (Fetching p t c) order work = subst (λ m. HasFetched o s m b given) order.0
+      (rw (← order.1) at (subst (λ (m : ℕ). HasFetched p m c b given) (sym order.2) work))
+  all_fetched _ order work = absurd order
 
   -- and after it the stripe is opened
   pub order_opened : (phase : Phase) → GoesOn n phase (Work o s ∷ tail) → GoesOn n (Opened o s) tail
-  order_opened Between order = absurd order
-  order_opened (Opened p t) order = absurd order
-  order_opened (Fetching p t c) order = subst (λ (m : ℕ). GoesOn n (Opened m s) tail) (sym order.1)
-      (subst (λ (m : ℕ). GoesOn n (Opened p m) tail) (sym order.2) order.3)
+  order_opened (Fetching p t c) order = rw (← order.1) at (subst (λ (m : ℕ). GoesOn n (Opened p m) tail)
+      (sym order.2) order.3)
+  order_opened _ order = absurd order
 
 -- each provider's block counts then
 pub all_counted : (n o s : ℕ) (tail : List Action) (phase : Phase) → GoesOn n phase (Work o s ∷ tail) →
     fetched_in phase ≡ n
-all_counted n o s tail Between order = absurd order
-all_counted n o s tail (Opened p t) order = absurd order
 all_counted n o s tail (Fetching p t c) order = order.0
+all_counted n o s tail _ order = absurd order
 
 module _ (n o s : ℕ) (b : Blocks) (given : List Given) (has : HasFetched o s n b given) where
   -- there is a mark for each provider fetched from
@@ -64,16 +59,8 @@ module _ (n o s : ℕ) (b : Blocks) (given : List Given) (has : HasFetched o s n
 -- the stripe that is fetched is worked on, so that it is the next one of the object whose stripes are opened
 pub own_object : (n : ℕ) (rest : List Action) (id total opened : ℕ) (o s c : ℕ) →
     GoesOn n (Fetching o s c) rest → OpensFrom id total opened rest → (o ≡ id) × (s ≡ opened)
-own_object n [] id total opened o s c order opens = absurd order
 own_object n (Fetch j p t ∷ rest) id total opened o s c order opens =
     own_object n rest id total opened o s (c + 1) order.4 opens
 own_object n (Work p t ∷ rest) id total opened o s c order opens =
     (sym order.1 ∙ opens.0, sym order.2 ∙ opens.1)
-own_object n (Store j p t ∷ rest) id total opened o s c order opens = absurd order
-own_object n (Ask j p t ∷ rest) id total opened o s c order opens = absurd order
-own_object n (Remove j p ∷ rest) id total opened o s c order opens = absurd order
-own_object n (WriteBody ∷ rest) id total opened o s c order opens = absurd order
-own_object n (SyncBody ∷ rest) id total opened o s c order opens = absurd order
-own_object n (WriteGate ∷ rest) id total opened o s c order opens = absurd order
-own_object n (SyncGate ∷ rest) id total opened o s c order opens = absurd order
-own_object n (End ∷ rest) id total opened o s c order opens = absurd order
+own_object n _ id total opened o s c order opens = absurd order

@@ -1,5 +1,5 @@
 -- A core with one more job: it is kept, and stands for the state after the begin.
-use Rattle.vault_core.proofs.Words.{rules, ◌≡◌, ◌≢◌, ℕ, zero, suc, ◌+◌, ◌^◌, ◌<◌, ◌≤◌, Bool, true, false, List, [], ◌∷◌, ◌++◌, Some, None, Global, length, map, inl, inr, refl, ap, sym, subst, ◌∙◌, arith, IsTrue, nat_lt, ◌==◌, sum, sum_by, if◌then◌else◌, nat_le, All, Result, Ok, Err, OnOk, OnErr, IfOk, IfErr, cases_Bool, leb-false, lt-ltb, nat_tests, All-push, sum_by_push, length-map, Each, Setup, Record, is_setup, largest_journal, all_profiles, Kind, PutJob, GetJob, DropJob, AuditJob, RepairJob, UpgradeJob, Aim, ToPut, ToGet, ToDrop, ToAudit, ToRepair, ToUpgrade, aim_of, room_left, Begin, BeginAt, Begun, IsSpelledKind, State, Append, setup_in, refusal_of_begin, beginning, chosen, IsSound, events-sound, Kept, Wish, Inside, CoreJob, CoreView, appends_in, HasLoneUpgrade, AreRising, job_in, told_by, told_in, HasNoStream, sizes_of, reserved_of, starts_by, starts_of, Reserves, written_as, written_of, IsKindOf, IsAimOf, IsShortAim, IsShortKindOf, IsPutUnder, IsJobOf, IsCoreFlight, CoreIs, job_begun, refusal_of, setup_kept, core_job, view_of, MayBegin, IsJobKept, IsCore, stripe_size, IsLongest, IsToldAs, IsTold, profile_of, Cause, is_upgrade, is_shut, are_numbers_used_up, are_jobs_in_the_way, causes, aim_of_wish, profile_named, IsShort, aims_in, sight_in, refusal_in, starts_for, appends_for, admitted, AreMore, IsMade}
+use Rattle.vault_core.proofs.Words.{rules, ◌≡◌, ◌≢◌, ℕ, zero, suc, ◌+◌, ◌^◌, ◌<◌, ◌≤◌, Bool, true, false, List, [], ◌∷◌, ◌++◌, Some, None, Global, length, map, inl, inr, refl, ap, sym, subst, ◌∙◌, arith, IsTrue, nat_lt, ◌==◌, sum, sum_by, if◌then◌else◌, nat_le, All, Result, Ok, Err, OnOk, OnErr, IfOk, IfErr, cases_Bool, leb-false, lt-ltb, nat_tests, All-push, sum_by_push, length-map, Each, Setup, Record, is_setup, largest_journal, all_profiles, Kind, PutJob, GetJob, DropJob, AuditJob, RepairJob, UpgradeJob, Aim, ToPut, ToAudit, aim_of, room_left, Begin, BeginAt, Begun, IsSpelledKind, State, Append, setup_in, refusal_of_begin, beginning, chosen, IsSound, events-sound, Kept, Wish, Inside, CoreJob, CoreView, appends_in, HasLoneUpgrade, AreRising, job_in, told_by, told_in, HasNoStream, sizes_of, reserved_of, starts_by, starts_of, Reserves, written_as, written_of, IsKindOf, IsAimOf, IsShortAim, IsShortKindOf, IsPutUnder, IsJobOf, IsCoreFlight, CoreIs, job_begun, refusal_of, setup_kept, core_job, view_of, MayBegin, IsJobKept, IsCore, stripe_size, IsLongest, IsToldAs, IsTold, profile_of, Cause, is_upgrade, is_shut, are_numbers_used_up, are_jobs_in_the_way, causes, aim_of_wish, profile_named, IsShort, aims_in, sight_in, refusal_in, starts_for, appends_for, admitted, AreMore, IsMade}
 use Rattle.std.proofs.Common.{◌*◌, Option, Vec, length-append}
 use Rattle.std.specs.Prelude.{◌||◌}
 use Rattle.state_laws.proofs.Begun.{none-applies}
@@ -22,7 +22,7 @@ use Rattle.vault_core.proofs.Kept.{rising_push, zip_push}
 
 seen-push : (js : List Job) (j : Job) → map core_job (js ++ j ∷ []) ≡ map core_job js ++ core_job j ∷ []
 seen-push [] j = refl
-seen-push (i ∷ js) j = ap (λ (xs : List CoreJob). core_job i ∷ xs) (seen-push js j)
+seen-push (i ∷ js) j = ap (λ xs. core_job i ∷ xs) (seen-push js j)
 
 -- ---- the room of a new job
 
@@ -32,9 +32,9 @@ whole-room i s (wish.Put name size own) = refl
 whole-room i s v = refl
 
 -- a job as it is made needs room for all records of its wish
-pub made-room : (t : Kept) (s : Setup) (k : ℕ) (v : Wish) (job : Job) → IsMade t s k v job → IsJobKept s job →
+pub made-room : {t : Kept} {s : Setup} {k : ℕ} {v : Wish} {job : Job} → IsMade t s k v job → IsJobKept s job →
     reserved_of t.version s (core_job job) ≡ sum (sizes_of t.version s.n v)
-made-room t s k v job made kept =
+made-room {t} {s} {v} {job} made kept =
     ap (room_left t.version s (aim_of_wish job.wish)) (sym kept.appends ∙ made.appends)
     ∙ (ap (λ (x : Wish). room_left t.version s (aim_of_wish x) (appends_for v)) made.wish
     ∙ whole-room t.version s v)
@@ -74,10 +74,12 @@ setup_known s h = search rules
 -- a begin that is not refused names no profile but one that there is
 pub own-left : (c : CoreView) (v : Wish) → refusal_in c v ≡ None → (p : ℕ) → profile_named v ≡ Some p → p < 5
 own-left c (wish.Put name size (Some own)) h p e =
-    let l = leb-false 5 own (none-of c (wish.Put name size (Some own)) h).1.1.1.0 in
-    let g : own ≡ p = cc in omega (arith, l, g)
-own-left c (wish.Put name size None) h p e = (let g : None ≡ Some p = e in cc)
-own-left c v h p e = (let g : None ≡ Some p = e in cc)
+    let g : own ≡ p = cc in omega (
+      arith,
+      leb-false 5 own (none-of c (wish.Put name size (Some own)) h).1.1.1.0,
+      g,
+    )
+own-left c _ h p e = (let g : None ≡ Some p = e in cc)
 
 -- so the profile of its job is one that there is
 pub own-known : (c : CoreView) (s : Setup) (v : Wish) → refusal_in c v ≡ None → IsTrue (is_setup s) →
@@ -91,23 +93,21 @@ own-known c s v h ok = by (profile_named v) refl
 -- where no refusal applies, fewer than eight jobs run
 pub few-left : (c : CoreView) (v : Wish) → refusal_in c v ≡ None → length c.jobs < 8
 few-left c v h =
-    let b = (none-of c v h).1.0 in
     let w = left_false (nat_le 8 (length (aims_in c.jobs))) _
     (sym (way (aims_in c.jobs) v)
-    ∙ right_false (is_shut (sight_in c)) (are_jobs_in_the_way 8 (aims_in c.jobs) (aim_of_wish v)) b) in
-    let l = leb-false 8 (length (aims_in c.jobs)) w in
-    let m = length-map c.jobs (λ (j : CoreJob). j.plan.aim) in
-    omega (arith, l, m)
+    ∙ right_false (is_shut (sight_in c)) (are_jobs_in_the_way 8 (aims_in c.jobs) (aim_of_wish v))
+    (none-of c v h).1.0) in
+    omega (arith, leb-false 8 (length (aims_in c.jobs)) w, length-map c.jobs (λ (j : CoreJob). j.plan.aim))
 
 -- where no refusal applies, an upgrade begins alone, and nothing begins beside it
 pub lone-left : (c : CoreView) (v : Wish) (y : CoreJob) → y.plan.aim ≡ aim_of_wish v → refusal_in c v ≡ None →
     HasLoneUpgrade (c.jobs ++ y ∷ [])
 lone-left c v y aim h =
     let b = (none-of c v h).1.0 in
-    let s = left_false (is_shut (sight_in c)) (are_jobs_in_the_way 8 (aims_in c.jobs) (aim_of_wish v)) b in
-    let w = right_false (is_shut (sight_in c)) (are_jobs_in_the_way 8 (aims_in c.jobs) (aim_of_wish v)) b in
-    lone_more c.jobs y (any-map (λ (j : CoreJob). j.plan.aim) is_upgrade c.jobs ∙ s)
-    (ap (are_jobs_in_the_way 8 (aims_in c.jobs)) aim ∙ w)
+    lone_more c.jobs y (any-map (λ j. j.plan.aim) is_upgrade c.jobs ∙
+    (left_false (is_shut (sight_in c)) (are_jobs_in_the_way 8 (aims_in c.jobs) (aim_of_wish v)) b))
+    (ap (are_jobs_in_the_way 8 (aims_in c.jobs)) aim ∙ (right_false (is_shut (sight_in c))
+    (are_jobs_in_the_way 8 (aims_in c.jobs) (aim_of_wish v)) b))
 
 -- ---- the core is kept
 
@@ -119,25 +119,22 @@ starts-le (wish.Put name size own) k = one (k == 2)
     one false = omega arith
 starts-le v k = omega arith
 
-module _ (a : Inside) (job : Job) (t : Kept) (js : Vec Job Global) (k : ℕ)
+module _ (a : Inside) (job : Job) {t : Kept} (js : Vec Job Global) (k : ℕ)
     (table : t ≡ record a.table { spare = a.table.spare + starts_for job.wish })
     (jobs : js.items ≡ a.jobs.items ++ job ∷ []) where
-  jobs-seen : map (core_job) js.items ≡ map
-      (core_job) a.jobs.items ++ core_job job ∷ []
+  jobs-seen : map (core_job) js.items ≡ map (core_job) a.jobs.items ++ core_job job ∷ []
   jobs-seen = ap (map (core_job)) jobs ∙ seen-push a.jobs.items job
 
   -- what a contract sees of a core with one more job is what a begin promises
   pub admitted-view : (v : CoreView) → view_of a ≡ v →
       view_of (record a { table = t; jobs = js; next_job = a.next_job + 1 }) ≡ admitted v job.wish job
-  admitted-view v e = subst
-      (λ (c : CoreView). view_of (record a { table = t; jobs = js; next_job = a.next_job + 1 })
-      ≡ admitted c job.wish job) e
-      (ap (λ (x : Kept). record (view_of a) {
+  admitted-view v e = subst (λ c. view_of (record a { table = t; jobs = js; next_job = a.next_job + 1 }) ≡
+      admitted c job.wish job) e (ap (λ x. record (view_of a) {
         table = x;
         jobs = map (core_job) js.items;
         next_job = a.next_job + 1;
       }) table
-      ∙ ap (λ (xs : List CoreJob). record (view_of a) {
+      ∙ ap (λ xs. record (view_of a) {
         table = record a.table { spare = a.table.spare + starts_for job.wish };
         jobs = xs;
         next_job = a.next_job + 1;
@@ -157,26 +154,24 @@ module _ (a : Inside) (job : Job) (t : Kept) (js : Vec Job Global) (k : ℕ)
         (All-push (IsJobKept (setup_kept a)) a.jobs.items job core.kept kept);
     told = subst (All (IsTold (setup_kept a))) (sym jobs-seen)
         (All-push (IsTold (setup_kept a)) (map core_job a.jobs.items) (core_job job) core.told told);
-    few = (let e = ap (λ (xs : List Job). length xs) jobs in let l = length-append a.jobs.items (job ∷ []) in
+    few = (let e = ap (λ xs. length xs) jobs in let l = length-append a.jobs.items (job ∷ []) in
         let o : length (job ∷ []) ≡ 1 = refl in omega (arith, e, l, o, few));
     begun = core.begun;
-    numbered = subst (λ (xs : List CoreJob). AreRising 0 xs (a.next_job + 1)) (sym jobs-seen)
-        (rising_push 0 (map (core_job) a.jobs.items) a.next_job
-        (core_job job) number core.numbered);
+    numbered = subst (λ xs. AreRising 0 xs (a.next_job + 1)) (sym jobs-seen)
+        (rising_push 0 (map (core_job) a.jobs.items) a.next_job (core_job job) number core.numbered);
     lone = subst HasLoneUpgrade (sym jobs-seen) lone;
     reserves = record {
-      room = (let e = ap (λ (xs : List CoreJob). sum_by (reserved_of a.table.version (setup_kept a)) xs)
-          jobs-seen in
+      room = let e = ap (λ xs. sum_by (reserved_of a.table.version (setup_kept a)) xs) jobs-seen in
           let p = sum_by_push (reserved_of a.table.version (setup_kept a)) (map (core_job) a.jobs.items)
           (core_job job) in
-          let v = ap (λ (x : Kept). sum_by (reserved_of x.version (setup_kept a)) (map core_job js.items))
+          let v = ap (λ x. sum_by (reserved_of x.version (setup_kept a)) (map core_job js.items))
           table in
-          omega (arith, e, p, v, room));
-      spare = (let e = ap (λ (xs : List CoreJob). sum_by (starts_of (setup_kept a)) xs) jobs-seen in
+          omega (arith, e, p, v, room);
+      spare = let e = ap (λ xs. sum_by (starts_of (setup_kept a)) xs) jobs-seen in
           let p = sum_by_push (starts_of (setup_kept a)) (map (core_job) a.jobs.items) (core_job job) in
           let q = starts-le job.wish (appends_in (setup_kept a) (core_job job)) in let
           r = core.reserves.spare in
-          let z = ap (λ (x : Kept). x.spare) table in omega (arith, e, p, q, r, z));
+          let z = ap (λ x. x.spare) table in omega (arith, e, p, q, r, z);
     };
   }
 
@@ -187,19 +182,16 @@ same-entry : (s : Setup) (t : Kept) (m : ℕ) (o : Option CoreJob) →
 same-entry s t m None = refl
 same-entry s t m (Some j) = by j.plan.aim
   where
-    by : (aim : Aim) → written_as (record t { spare = m }) (appends_in s j) j.plan.profile
-        j.plan.subject j.sums aim
-        ≡ written_as t (appends_in s j) j.plan.profile j.plan.subject j.sums aim
-    by (ToPut name size) = refl
-    by aim = refl
+    by : (aim : Aim) → written_as (record t { spare = m }) (appends_in s j) j.plan.profile j.plan.subject
+        j.sums aim ≡ written_as t (appends_in s j) j.plan.profile j.plan.subject j.sums aim
+    by _ = refl
 
 found-more : (s : Setup) (js : List CoreJob) (x : CoreJob) (k : ℕ) (t : Kept) (e : Record) →
     written_of s t (job_in js k) ≡ Some e → job_in (js ++ x ∷ []) k ≡ job_in js k
-found-more s [] x k t e h = let f : None ≡ Some e = h in cc
+found-more s [] x k t e h = let f = h in cc
 found-more s (j ∷ js) x k t e h = elim (cases_Bool (j.number == k)) [
   | inl y ↦ rw y refl
-  | inr n ↦ rw n (found-more s js x k t e
-      (subst (λ (b : Bool). written_of s t (if b then Some j else job_in js k) ≡ Some e) n h))
+  | inr n ↦ rw n (found-more s js x k t e (rw n at h))
 ]
 
 flight-more : (c : CoreView) (v : Wish) (job : Job) (o : Option Append) → IsCoreFlight c o →
@@ -216,16 +208,16 @@ flight-more c v job (Some a) h = (
 put_kind : (o : Option ℕ) (name : List ℕ) (size : ℕ) (own : Option ℕ) (k : Kind) →
     IsAimOf o (wish.Put name size own) k → (word : List ℕ) × ((bytes : List ℕ) × (k ≡ PutJob word bytes))
 put_kind o name size own (PutJob word bytes) e = (word, (bytes, refl))
-put_kind None name size own (GetJob word) e = (let f : ToPut name size ≡ ToGet word = e in cc)
-put_kind None name size own (DropJob word) e = (let f : ToPut name size ≡ ToDrop word = e in cc)
-put_kind None name size own AuditJob e = (let f : ToPut name size ≡ ToAudit = e in cc)
-put_kind None name size own RepairJob e = (let f : ToPut name size ≡ ToRepair = e in cc)
-put_kind None name size own UpgradeJob e = (let f : ToPut name size ≡ ToUpgrade = e in cc)
-put_kind (Some n) name size own (GetJob word) e = (let f : ToPut name size ≡ ToGet word = e in cc)
-put_kind (Some n) name size own (DropJob word) e = (let f : ToPut name size ≡ ToDrop word = e in cc)
-put_kind (Some n) name size own AuditJob e = (let f : ToPut name size ≡ ToAudit = e in cc)
-put_kind (Some n) name size own RepairJob e = (let f : ToPut name size ≡ ToRepair = e in cc)
-put_kind (Some n) name size own UpgradeJob e = (let f : ToPut name size ≡ ToUpgrade = e in cc)
+put_kind None name size own (GetJob word) e = (let f = e in cc)
+put_kind None name size own (DropJob word) e = (let f = e in cc)
+put_kind None name size own AuditJob e = (let f = e in cc)
+put_kind None name size own RepairJob e = (let f = e in cc)
+put_kind None name size own UpgradeJob e = (let f = e in cc)
+put_kind (Some n) name size own (GetJob word) e = (let f = e in cc)
+put_kind (Some n) name size own (DropJob word) e = (let f = e in cc)
+put_kind (Some n) name size own AuditJob e = (let f = e in cc)
+put_kind (Some n) name size own RepairJob e = (let f = e in cc)
+put_kind (Some n) name size own UpgradeJob e = (let f = e in cc)
 
 -- a begin leaves a sound state, of a put also with a profile of its own
 begin-sound : (w : State) (kind : Kind) (moment : ℕ) (told : Option ℕ) (v : Wish) → IsSound 8 w →
@@ -234,27 +226,23 @@ begin-sound : (w : State) (kind : Kind) (moment : ℕ) (told : Option ℕ) (v : 
     refusal_of_begin 8 w kind (profile_named v) ≡ None → IsSound 8 (job_begun w moment kind (profile_named v))
 begin-sound w kind moment told (wish.Put name size (Some own)) sound opened of spelled few allowed =
     let p = put_kind told name size (Some own) kind of in
-    subst (λ (k : Kind). IsSpelledKind k → refusal_of_begin 8 w k (Some own) ≡ None →
+    subst (λ k. IsSpelledKind k → refusal_of_begin 8 w k (Some own) ≡ None →
     IsSound 8 (job_begun w moment k (Some own))) (sym p.1.1)
     (λ spelt entered. events-sound 8 moment w sound (omega arith, omega arith)
     (BeginAt own p.0 p.1.0) (Begun w.next_job) (job_begun w moment (PutJob p.0 p.1.0) (Some own))
     (few own refl, spelt) (opened, entered, refl, refl)) spelled allowed
-begin-sound w kind moment told (wish.Put name size None) sound opened of spelled few allowed =
-    events-sound 8 moment w sound (omega arith, omega arith) (Begin kind) (Begun w.next_job)
-    (job_begun w moment kind None) spelled (opened, allowed, refl, refl)
-begin-sound w kind moment told v sound opened of spelled few allowed =
-    events-sound 8 moment w sound (omega arith, omega arith) (Begin kind) (Begun w.next_job)
+begin-sound w kind moment told _ sound opened of spelled few allowed = events-sound 8 moment w sound
+    (omega arith, omega arith) (Begin kind) (Begun w.next_job)
     (job_begun w moment kind None) spelled (opened, allowed, refl, refl)
 
 -- with a new job, a core stands for the machine's state after the begin
-pub core-begun : (c : CoreView) (w : State) (kind : Kind) (moment : ℕ) (v : Wish) (job : Job) → CoreIs c w →
+pub core-begun : {c : CoreView} {w : State} (kind : Kind) (moment : ℕ) {v : Wish} {job : Job} → CoreIs c w →
     IsAimOf job.told v kind → MayBegin job.told v → IsTold c.setup (core_job job) → IsSpelledKind kind →
-    ((p : ℕ) → profile_named v ≡ Some p → p < 256) →
-    refusal_of_begin 8 w kind (profile_named v) ≡ None →
+    ((p : ℕ) → profile_named v ≡ Some p → p < 256) → refusal_of_begin 8 w kind (profile_named v) ≡ None →
     c.setup.n ≤ 16 → IsMade c.table c.setup c.next_job v job →
     CoreIs (admitted c v job) (job_begun w moment kind (profile_named v))
 unfolding setup_in
-core-begun c w kind moment v job is of begins within spelled own allowed most made = record {
+core-begun {c} {w} kind moment {v} {job} is of begins within spelled own allowed most made = record {
   sound = begin-sound w kind moment job.told v is.sound is.is_open of spelled own allowed;
   is_open = is.is_open;
   none_alone = is.none_alone;
@@ -270,13 +258,10 @@ core-begun c w kind moment v job is of begins within spelled own allowed most ma
   };
   setup = is.setup;
   end = is.end;
-  jobs = zip_push (IsJobOf c.setup) c.jobs w.jobs (core_job job)
-      (beginning w moment kind (profile_named v)) is.jobs
-      (made-is c.table c.setup w moment v kind job
-      (subst (λ (k : ℕ). IsMade c.table c.setup k v job) is.next_job made) most (table-like c w is)
-      is.setup
-      is.sound.files of begins within);
-  next_job = ap (λ (k : ℕ). k + 1) is.next_job;
+  jobs = zip_push (IsJobOf c.setup) c.jobs w.jobs (core_job job) (beginning w moment kind (profile_named v))
+      is.jobs (made-is w moment kind (rw is.next_job at made) most (table-like c w is)
+      is.setup is.sound.files of begins within);
+  next_job = ap (λ k. k + 1) is.next_job;
   append = flight-more c v job w.append is.append;
   barred = is.barred;
 }
@@ -302,30 +287,30 @@ some-stripe s p h = let l = primary s h in let k = some_kept p in
     times (suc a) b x y = (let e : suc a * b ≡ b + a * b = omega arith in omega (arith, e, y))
 
 -- a new job is told as it should be
-pub told-start : (t : Kept) (s : Setup) (k : ℕ) (v : Wish) (job : Job) → IsTrue (is_setup s) →
+pub told-start : {t : Kept} {s : Setup} {k : ℕ} {v : Wish} {job : Job} → IsTrue (is_setup s) →
     IsMade t s k v job → MayBegin job.told v → IsTold s (core_job job)
-told-start t s k v job ok made = by job.told
+told-start {s} {v} {job} ok made = by job.told
   where
     by : (o : Option ℕ) → MayBegin o v → IsToldAs s (core_job job) o
     by None m = tt
     by (Some n) m = (
       (let p = made.place in omega (arith, p)),
       some-stripe s job.profile ok,
-      subst (λ (x : ℕ). x * stripe_size s job.profile ≤ 2 ^ 22) (sym m.0) (omega arith),
-      subst (λ (w : Wish). IsLongest (aim_of_wish w)) (sym made.wish) m.1,
+      subst (λ x. x * stripe_size s job.profile ≤ 2 ^ 22) (sym m.0) (omega arith),
+      subst (λ w. IsLongest (aim_of_wish w)) (sym made.wish) m.1,
     )
 
 -- a core in which one more job runs
-pub more-jobs : (a : Inside) (c new : CoreView) (w : Wish) (job : Job) → view_of a ≡ c → IsCore a →
+pub more-jobs : {a : Inside} {c new : CoreView} (w : Wish) (job : Job) → view_of a ≡ c → IsCore a →
     new ≡ admitted c w job → job.number ≡ c.next_job → AreMore job.told c new
-more-jobs a c new w job v h e n = record {
+more-jobs {c} w job v h e n = record {
   job = core_job job;
-  jobs = ap (λ (x : CoreView). x.jobs) e;
+  jobs = ap (λ x. x.jobs) e;
   number = n;
   told = refl;
-  here = ap (λ (x : CoreView). job_in x.jobs c.next_job) e
+  here = ap (λ x. job_in x.jobs c.next_job) e
       ∙ in_push 0 c.jobs c.next_job (core_job job)
-      (subst (λ (x : CoreView). AreRising 0 x.jobs x.next_job) v h.numbered) n;
+      (subst (λ x. AreRising 0 x.jobs x.next_job) v h.numbered) n;
 }
 
 -- a stream that begins is open, with no stripe given
@@ -337,15 +322,15 @@ stream-open (Err why) c new h n = tt
 -- and no other job changes
 pub stream-others : (r : Result ℕ BeginFault) (c new : CoreView) → OnOk r (AreMore (Some 0) c new) →
     OnErr r (new ≡ c) → (other : ℕ) → other ≢ c.next_job → told_in new.jobs other ≡ told_in c.jobs other
-stream-others (Ok job) c new h e other o = ap (λ (js : List CoreJob). told_in js other) h.jobs
+stream-others (Ok job) c new h e other o = ap (λ js. told_in js other) h.jobs
     ∙ ap told_by (in_push_other c.jobs other h.job (λ m. o (sym m ∙ h.number)))
-stream-others (Err why) c new h e other o = ap (λ (x : CoreView). told_in x.jobs other) e
+stream-others (Err why) c new h e other o = ap (λ x. told_in x.jobs other) e
 
 -- what a begin says of all jobs of some kinds it says of fewer
-pub begins_among : (c new : CoreView) (kinds fewer : Kind → Type 0) (own : Option ℕ)
-    (r : Result ℕ BeginFault) → ((kind : Kind) → fewer kind → kinds kind) → BeginsAs c kinds own r new →
+pub begins_among : {c new : CoreView} {kinds : Kind → Type 0} (fewer : Kind → Type 0) {own : Option ℕ}
+    {r : Result ℕ BeginFault} → ((kind : Kind) → fewer kind → kinds kind) → BeginsAs c kinds own r new →
     BeginsAs c fewer own r new
-begins_among c new kinds fewer own r among h = record {
+begins_among fewer among h = record {
   begun = λ w kind moment is of. h.begun w kind moment is (among kind of);
   accepted = λ w kind is of. h.accepted w kind is (among kind of);
   number = h.number;
@@ -376,7 +361,7 @@ memory_alone (Err why) P h = λ other. absurd (other h)
 -- a put of a name, of at most 2^22 bytes, is one that a stream of the name stands for
 pub put_under : (name : List ℕ) (own : Option ℕ) (kind : Kind) → IsPutUnder name kind →
     IsShortKindOf (Some 0) (wish.Put name (2 ^ 22) own) kind
-put_under name own (PutJob n bytes) h = (ap (λ (x : List ℕ). ToPut x (2 ^ 22)) (sym h.0), h.1)
+put_under name own (PutJob n bytes) h = (ap (λ x. ToPut x (2 ^ 22)) (sym h.0), h.1)
 put_under name own kind h = absurd h
 
 -- what a begin leaves of open streams, of a job that is none
@@ -384,14 +369,10 @@ pub begun-told : (r : Result ℕ BeginFault) (c new : CoreView) → OnOk r (AreM
     OnErr r (new ≡ c) →
     (HasNoStream c → HasNoStream new) × ((number : ℕ) → told_in new.jobs number ≡ told_in c.jobs number)
 begun-told (Ok number) c new h e = (
-  (λ none. subst (All (λ (j : CoreJob). j.told ≡ None)) (sym h.jobs)
-      (streamless_push c.jobs h.job h.told none)),
-  (λ n. ap (λ (js : List CoreJob). told_in js n) h.jobs ∙ told_push c.jobs h.job n h.told),
+  (λ none. (rw (← h.jobs) at (streamless_push c.jobs h.job h.told none))),
+  (λ n. ap (λ js. told_in js n) h.jobs ∙ told_push c.jobs h.job n h.told),
 )
-begun-told (Err why) c new h e = (
-  (λ none. subst HasNoStream (sym e) none),
-  (λ n. ap (λ (x : CoreView). told_in x.jobs n) e),
-)
+begun-told (Err why) c new h e = ((λ none. (rw (← e) at none)), (λ n. ap (λ x. told_in x.jobs n) e))
 
 -- ---- what a call gave
 
@@ -402,4 +383,4 @@ on_ok_then (Err x) P Q f h = h
 
 -- fewer than eight jobs as a contract sees them are fewer than eight as they are kept
 pub fewer-than : (js : List Job) → length (map core_job js) < 8 → length js < 8
-fewer-than js h = let e = length-map js core_job in omega (arith, e, h)
+fewer-than js h = omega (arith, length-map js core_job, h)

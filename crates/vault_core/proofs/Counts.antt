@@ -1,5 +1,5 @@
 -- How many gates are among the actions that a job has not yet made.
-use Rattle.vault_core.proofs.Words.{◌≡◌, ℕ, ◌+◌, Bool, true, false, cond, List, [], ◌∷◌, ◌++◌, Some, None, map, inl, inr, refl, ap, subst, ◌∙◌, arith, ◌⊎◌, sum, count_by, slice_get, if◌then◌else◌, flat_map, cases_Bool, sum_by-cons, sum_by-append, Action, Work, Remove, End, ends_append, Wish, Move, Cursor, Task, flag_at, numbers, call_of, calls_from, rewrite_of, rewrites_from, work_of, turn_of, turns_from, tasks_of, moves_from, closing_of, tasks_from, rest_from, is_opener, is_closer, comes_to}
+use Rattle.vault_core.proofs.Words.{◌≡◌, ℕ, ◌+◌, Bool, true, false, cond, List, [], ◌∷◌, ◌++◌, Some, map, inl, inr, refl, ap, ◌∙◌, arith, ◌⊎◌, sum, count_by, slice_get, if◌then◌else◌, flat_map, cases_Bool, sum_by-cons, sum_by-append, Action, Work, Remove, End, ends_append, Wish, Move, Cursor, Task, flag_at, numbers, call_of, calls_from, rewrite_of, rewrites_from, work_of, turn_of, turns_from, tasks_of, moves_from, closing_of, tasks_from, rest_from, is_opener, is_closer, comes_to}
 use Rattle.std.proofs.Common.{drop}
 use Rattle.vault_core.specs.declared.wish.Wish.TheVariants as wish
 use Rattle.vault_core.specs.declared.cursor.Move.TheVariants as move
@@ -12,32 +12,33 @@ gates xs = count_by ends_append xs
 
 -- the gates of two lists in a row are the sum of both
 pub gates-append : (xs ys : List Action) → gates (xs ++ ys) ≡ gates xs + gates ys
-gates-append xs ys = sum_by-append (λ (x : Action). cond (ends_append x) 1 0) xs ys
+gates-append xs ys = sum_by-append (λ x. cond (ends_append x) 1 0) xs ys
 
 -- the gates of a list are those behind its head, and one more if the head is one
 pub gates-cons : (x : Action) (xs : List Action) → gates (x ∷ xs) ≡ cond (ends_append x) 1 0 + gates xs
-gates-cons x xs = sum_by-cons (λ (x : Action). cond (ends_append x) 1 0) x xs
+gates-cons x xs = sum_by-cons (λ x. cond (ends_append x) 1 0) x xs
 
 -- the same where the head is read
 pub gates_behind : (xs : List Action) (x : Action) → slice_get xs 0 ≡ Some x →
     gates xs ≡ cond (ends_append x) 1 0 + gates (drop 1 xs)
-gates_behind [] x e = let f : None ≡ Some x = e in cc
-gates_behind (y ∷ ys) x e =
-    let f : Some y ≡ Some x = e in let g : y ≡ x = cc in
-    gates-cons y ys ∙ ap (λ (z : Action). cond {A = ℕ} (ends_append z) 1 0 + gates ys) g
+gates_behind [] x e = cc
+gates_behind (y ∷ ys) x e = gates-cons y ys ∙ ap (λ z. cond {A = ℕ} (ends_append z) 1 0 + gates ys) cc
 
 -- lists that a function makes have no gate where its values are none
 pub none_map : (f : ℕ → Action) (ks : List ℕ) → ((k : ℕ) → ends_append (f k) ≡ false) → gates (map f ks) ≡ 0
 none_map f [] h = refl
-none_map f (k ∷ ks) h = let e = gates-cons (f k) (map f ks) in let i =
-    none_map f ks h in let c = ap (λ (b : Bool). cond {A = ℕ} b 1 0) (h k) in omega (arith, e, i, c)
+none_map f (k ∷ ks) h = omega (
+  arith,
+  gates-cons (f k) (map f ks),
+  none_map f ks h,
+  ap (λ (b : Bool). cond {A = ℕ} b 1 0) (h k),
+)
 
 -- so for a function of lists
 pub none_flat : {X : Type 0} (f : X → List Action) (ks : List X) → ((k : X) → gates (f k) ≡ 0) →
     gates (flat_map f ks) ≡ 0
 none_flat f [] h = refl
-none_flat f (k ∷ ks) h = let e =
-    gates-append (f k) (flat_map f ks) in let i = none_flat f ks h in let c = h k in omega (arith, e, i, c)
+none_flat f (k ∷ ks) h = omega (arith, gates-append (f k) (flat_map f ks), none_flat f ks h, (h k))
 
 call_none : (w : Wish) (o t j : ℕ) → ends_append (call_of w o t j) ≡ false
 call_none w o t j = by_call (λ a. ends_append a ≡ false) w o t j refl refl refl
@@ -52,17 +53,24 @@ rewrite_none fl o t j = elim (cases_Bool (flag_at fl j)) [
 ]
 
 work_none : (n : ℕ) (w : Wish) (fl : List Bool) (o t : ℕ) → gates (work_of n w fl o t) ≡ 0
-work_none n wish.Repair fl o t = let e = gates-cons (Work o t) (rewrites_from 0 n fl o t) in let r =
-    none_flat (rewrite_of fl o t) (numbers 0 n) (rewrite_none fl o t) in omega (arith, e, r)
+work_none n wish.Repair fl o t = omega (
+  arith,
+  gates-cons (Work o t) (rewrites_from 0 n fl o t),
+  none_flat (rewrite_of fl o t) (numbers 0 n) (rewrite_none fl o t),
+)
 work_none n w fl o t = refl
 
 turn_none : (n : ℕ) (w : Wish) (fl : List Bool) (o t : ℕ) → gates (turn_of n w fl o t) ≡ 0
-turn_none n w fl o t = let e = gates-append (calls_from 0 n w o t) (work_of n w fl o t) in let a =
-    calls_none 0 n w o t in let b = work_none n w fl o t in omega (arith, e, a, b)
+turn_none n w fl o t = omega (
+  arith,
+  gates-append (calls_from 0 n w o t) (work_of n w fl o t),
+  calls_none 0 n w o t,
+  work_none n w fl o t,
+)
 
 -- the actions on files have no gate
 tasks_none : (n : ℕ) (w : Wish) (fl : List Bool) (ts : List Task) → gates (tasks_of n w fl ts) ≡ 0
-tasks_none n w fl ts = none_flat (λ (t : Task). turns_from 0 n w fl t.object t.turns) ts
+tasks_none n w fl ts = none_flat (λ t. turns_from 0 n w fl t.object t.turns) ts
     (λ t. none_flat (turn_of n w fl t.object) (numbers 0 t.turns) (turn_none n w fl t.object))
 
 -- removals have no gate
@@ -96,8 +104,7 @@ moves_gates n w fl ts m = let e = gates-append (moves_from m) (tasks_from n w fl
 -- at a move of its last append it has this one alone
 pub closing_gates : (n : ℕ) (w : Wish) (fl : List Bool) (ts : List Task) (m : Move) →
     gates (rest_from n w fl ts (at.Closing m)) ≡ 1
-closing_gates n w fl ts m =
-    let e = gates-append (moves_from m) (End ∷ []) in let a = moves_one m in omega (arith, e, a)
+closing_gates n w fl ts m = omega (arith, gates-append (moves_from m) (End ∷ []), moves_one m)
 
 -- the appends that a job may have before it at a move of one of them
 abbrev pub MayHave : Wish → ℕ → Type 0
@@ -108,18 +115,18 @@ pub moves_have : (n : ℕ) (w : Wish) (fl : List Bool) (ts : List Task) (c : Cur
     ((m : Move) × (c ≡ at.Opening m)) ⊎ ((m : Move) × (c ≡ at.Closing m)) → comes_to w c ≡ true →
     k ≡ gates (rest_from n w fl ts c) → MayHave w k
 moves_have n w fl ts c k (inl p) h e = inl (
-  e ∙ (ap (λ (x : Cursor). gates (rest_from n w fl ts x)) p.1 ∙ moves_gates n w fl ts p.0),
-  subst (λ (x : Cursor). comes_to w x ≡ true) p.1 h,
+  e ∙ (ap (λ x. gates (rest_from n w fl ts x)) p.1 ∙ moves_gates n w fl ts p.0),
+  (rw p.1 at h),
 )
 moves_have n w fl ts c k (inr p) h e = inr (
-  e ∙ (ap (λ (x : Cursor). gates (rest_from n w fl ts x)) p.1 ∙ closing_gates n w fl ts p.0),
-  subst (λ (x : Cursor). comes_to w x ≡ true) p.1 h,
+  e ∙ (ap (λ x. gates (rest_from n w fl ts x)) p.1 ∙ closing_gates n w fl ts p.0),
+  (rw p.1 at h),
 )
 
 -- a sum of one number
 pub one : (k : ℕ) → k ≡ sum (k ∷ [])
-one k = omega (arith, sum_by-cons (λ (x : ℕ). x) k [])
+one k = omega (arith, sum_by-cons (λ x. x) k [])
 
 -- a sum of two numbers
 pub two : (a b : ℕ) → a + b ≡ sum (a ∷ b ∷ [])
-two a b = let e = sum_by-cons (λ (x : ℕ). x) a (b ∷ []) in let f = one b in omega (arith, e, f)
+two a b = omega (arith, sum_by-cons (λ (x : ℕ). x) a (b ∷ []), one b)

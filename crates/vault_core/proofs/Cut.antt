@@ -1,5 +1,5 @@
 -- A stream that waits for a stripe and is told the length of its file is a put of this length as it is kept.
-use Rattle.vault_core.proofs.Words.{◌≡◌, ℕ, ◌+◌, ◌-◌, ◌/◌, ◌^◌, ◌<◌, ◌≤◌, Bool, true, false, List, [], ◌∷◌, ◌++◌, Some, None, length, inl, inr, refl, ap, sym, subst, ◌∙◌, arith, Global, ◌⊎◌, nat_lt, if◌then◌else◌, All, flat_map, range_with_len, cases_lt, false≢true, lt-ltb, le-ltb, ne_eqb, eq-eqb, drop_at, le-div, Setup, profiled, stripes_of, Aim, ToPut, Action, Store, End, append_actions, on_each_provider, plan_actions, removes_older, most_after, room_left, is_upgrade, Wish, Spot, Task, core_pins, plan_in, planned, planned_by, rest_in, appends_in, stripe_size, IsLongest, IsToldAs, of_length, cut_tasks, cursor_behind, steps_behind, turn_of, turns_from, rest_from, rest_of, reserved_of, starts_of, starts_by, targets_of, stripes_in, turns_for, tasks_made, most_of, listed_older, plan_kept, core_job, is_caller, comes_to, IsWithin, IsSteadyJob, IsJobKept, HasName, IsShort, aim_of_wish, profile_named}
+use Rattle.vault_core.proofs.Words.{◌≡◌, ℕ, ◌+◌, ◌-◌, ◌/◌, ◌^◌, ◌<◌, ◌≤◌, Bool, true, false, List, [], ◌∷◌, ◌++◌, Some, None, length, inl, inr, refl, ap, sym, subst, ◌∙◌, arith, Global, ◌⊎◌, nat_lt, if◌then◌else◌, All, flat_map, range_with_len, cases_lt, false≢true, lt-ltb, le-ltb, ne_eqb, eq-eqb, drop_at, le-div, Setup, profiled, stripes_of, Aim, ToPut, Action, Store, End, append_actions, on_each_provider, plan_actions, removes_older, most_after, room_left, is_upgrade, Wish, Spot, Task, core_pins, plan_in, planned_by, rest_in, appends_in, stripe_size, IsLongest, IsToldAs, of_length, cut_tasks, cursor_behind, steps_behind, turn_of, turns_from, rest_from, rest_of, reserved_of, starts_of, starts_by, targets_of, stripes_in, turns_for, tasks_made, most_of, listed_older, plan_kept, core_job, is_caller, comes_to, IsWithin, IsSteadyJob, IsJobKept, HasName, IsShort, aim_of_wish, profile_named}
 use Rattle.std.proofs.Common.{◌*◌, drop, Vec}
 use Rattle.std.specs.Prelude.{Option, ◌&&◌}
 use Rattle.std.proofs.Math.Nat.{div-mul-le_self}
@@ -23,7 +23,7 @@ record IsStreamWish (w : Wish) : Type 0 where
 
 stream-wish : (w : Wish) → IsLongest (aim_of_wish w) → IsStreamWish w
 stream-wish (wish.Put name size own) e =
-    record { name = name; own = own; is = ap (λ (n : ℕ). wish.Put name n own) e }
+    record { name = name; own = own; is = ap (λ n. wish.Put name n own) e }
 stream-wish w e = absurd e
 
 -- what a put has before it behind its first stripes
@@ -35,20 +35,17 @@ rest-put : (s : Setup) (job : Job) (name : List ℕ) (size : ℕ) (own : Option 
 unfolding planned_by
 rest-put s job name size own k e place l =
     let all = stripes_of (profiled s job.profile) size in
-    let whole : planned s (plan_kept job)
-    ≡ front s job.subject k ++ behind s job.subject all k (listed_older job.older) =
-    ap (λ (w : Wish). plan_actions core_pins s (plan_in (plan_kept job)) (aim_of_wish w)) e
-    ∙ front-behind s job.subject all k (listed_older job.older) l in
-    (λ i. drop (place i) (whole i))
+    (λ i. drop (place i) ((ap (λ (w : Wish). plan_actions core_pins s (plan_in (plan_kept job))
+    (aim_of_wish w)) e
+    ∙ front-behind s job.subject all k (listed_older job.older) l) i))
     ∙ drop_at (front s job.subject k) (behind s job.subject all k (listed_older job.older)) (4 + k * s.n)
     (front-long s job.subject k)
 
 -- how many steps a put may still make with one append left
 most-put : (s : Setup) (aim : Aim) (xs : List Action) → removes_older aim ≡ true → gates xs ≡ 1 →
     most_after s aim xs ≡ length xs + s.n
-most-put s aim xs r g =
-    ap {B = ℕ} (λ (b : Bool). length xs + (if b && nat_lt 0 (gates xs) then s.n else 0)) r
-    ∙ ap {B = ℕ} (λ (m : ℕ). length xs + (if nat_lt 0 m then s.n else 0)) g
+most-put s aim xs r g = ap {B = ℕ} (λ b. length xs + (if b && nat_lt 0 (gates xs) then s.n else 0)) r
+    ∙ ap {B = ℕ} (λ m. length xs + (if nat_lt 0 m then s.n else 0)) g
 
 -- the one task of a put, cut to fewer stripes
 cut-one : (object all stripes : ℕ) → stripes ≤ all →
@@ -67,8 +64,7 @@ cut-one object all stripes l = elim (cases_lt 0 stripes) [
 stores-from : (s : Setup) (name : List ℕ) (size : ℕ) (own : Option ℕ) (fl : List Bool) (object k all : ℕ) →
     turns_from k s.n (wish.Put name size own) fl object all
     ≡ flat_map (λ t. on_each_provider s (λ j. Store j object t)) (range_with_len k (all - k))
-stores-from s name size own fl object k all =
-    flat-same (turn_of s.n (wish.Put name size own) fl object)
+stores-from s name size own fl object k all = flat-same (turn_of s.n (wish.Put name size own) fl object)
     (λ t. on_each_provider s (λ j. Store j object t)) (range_with_len k (all - k))
     (put-turn s name size own fl object)
 
@@ -80,23 +76,23 @@ rest-cursor : (s : Setup) (name : List ℕ) (size : ℕ) (own : Option ℕ) (fl 
 rest-cursor s name size own fl ts object k all l e = elim (cases_lt k all) [
   | inl h ↦ (let w = wish.Put name size own in
       let one : ts ≡ record { object = object; turns = all } ∷ [] =
-      e ∙ ap {B = List Task} (λ (b : Bool). if b then record { object = object; turns = all } ∷ [] else [])
+      e ∙ ap {B = List Task} (λ b. if b then record { object = object; turns = all } ∷ [] else [])
       (lt-ltb 0 all (omega (arith, h))) in
       let spot : Spot = record { object = object; turn = k; turns = all; behind = 1 } in
-      ap (λ (b : Bool). rest_from s.n w fl ts (if b then at.Calling spot 0 else at.Closing move.Body))
+      ap (λ b. rest_from s.n w fl ts (if b then at.Calling spot 0 else at.Closing move.Body))
       (lt-ltb k all h)
-      ∙ (ap (λ (us : List Task). rest_from s.n w fl us (at.Calling spot 0)) one
+      ∙ (ap (λ us. rest_from s.n w fl us (at.Calling spot 0)) one
       ∙ (sym (turn_joined s.n w fl object k (turns_from (k + 1) s.n w fl object all)
       (append_actions ++ End ∷ []))
-      ∙ (ap (λ (xs : List Action). xs ++ (append_actions ++ End ∷ []))
+      ∙ (ap (λ xs. xs ++ (append_actions ++ End ∷ []))
       (sym (turns_here k s.n w fl object all h))
-      ∙ ap (λ (xs : List Action). xs ++ (append_actions ++ End ∷ []))
+      ∙ ap (λ xs. xs ++ (append_actions ++ End ∷ []))
       (stores-from s name size own fl object k all)))))
   | inr h ↦ (let z : 0 ≡ all - k = omega (arith, l, h) in
-      ap (λ (b : Bool). rest_from s.n (wish.Put name size own) fl ts
+      ap (λ b. rest_from s.n (wish.Put name size own) fl ts
       (if b then at.Calling (record { object = object; turn = k; turns = all; behind = 1 }) 0
       else at.Closing move.Body)) (le-ltb k all h)
-      ∙ ap (λ (n : ℕ). flat_map (λ t. on_each_provider s (λ j. Store j object t)) (range_with_len k n)
+      ∙ ap (λ n. flat_map (λ t. on_each_provider s (λ j. Store j object t)) (range_with_len k n)
       ++ (append_actions ++ End ∷ [])) z)
 ]
 
@@ -105,20 +101,19 @@ more-stripes : (s : Setup) (profile a b : ℕ) → 0 < stripe_size s profile →
     stripes_of (profiled s profile) a ≤ stripes_of (profiled s profile) b
 more-stripes s profile a b some l =
     let d = stripe_size s profile in
-    let m = div-mul-le_self (a + (d - 1)) d in
-    le-div ((a + (d - 1)) / d) (b + (d - 1)) d some (omega (arith, m, l))
+    le-div ((a + (d - 1)) / d) (b + (d - 1)) d some (omega (arith, div-mul-le_self (a + (d - 1)) d, l))
 
 fewer-steps : (n k a b : ℕ) → a ≤ b → steps_behind n k a ≤ steps_behind n k b
 fewer-steps n k a b l =
     let e : (b - k) * n ≡ (a - k) * n + ((b - k) - (a - k)) * n =
-    ap (λ (x : ℕ). x * n) (let f : b - k ≡ (a - k) + ((b - k) - (a - k)) = omega (arith, l) in f)
+    ap (λ x. x * n) (let f : b - k ≡ (a - k) + ((b - k) - (a - k)) = omega (arith, l) in f)
     ∙ (let g : ((a - k) + ((b - k) - (a - k))) * n ≡ (a - k) * n + ((b - k) - (a - k)) * n = omega arith in g)
     in
     omega (arith, e)
 
 -- ---- the stream
 
-module _ (s : Setup) (job : Job) (kept : IsJobKept s job) (k size stripes : ℕ) (v : Vec Task Global)
+module _ {s : Setup} {job : Job} (kept : IsJobKept s job) (k size : ℕ) {stripes : ℕ} (v : Vec Task Global)
     (some : 0 < s.n) (within : IsToldAs s (core_job job) (Some k)) (place : job.place ≡ 4 + k * s.n)
     (least : k * stripe_size s job.profile ≤ size) (most : size ≤ 2 ^ 22)
     (all : stripes ≡ stripes_in s (record { id = job.subject; length = size; profile = job.profile }))
@@ -165,11 +160,11 @@ module _ (s : Setup) (job : Job) (kept : IsJobKept s job) (k size stripes : ℕ)
       ∙ one-gate s job.subject longest_stripes k (listed_older job.older))
 
   none-older : job.older ≡ None
-  none-older = kept.undecided (let e = one-left in omega (arith, e))
+  none-older = kept.undecided (omega (arith, one-left))
 
   new-rest : rest_in s (core_job ended) ≡ behind s job.subject own_stripes k []
   new-rest = rest-put s ended is-put.name size is-put.own k new-wish place new-fits
-      ∙ ap (λ (o : Option ℕ). behind s job.subject own_stripes k (listed_older o)) none-older
+      ∙ ap (λ o. behind s job.subject own_stripes k (listed_older o)) none-older
 
   new-gates : gates (rest_in s (core_job ended)) ≡ 1
   new-gates = ap gates new-rest ∙ one-gate s job.subject own_stripes k []
@@ -181,7 +176,7 @@ module _ (s : Setup) (job : Job) (kept : IsJobKept s job) (k size stripes : ℕ)
       ≡ (if nat_lt 0 longest_stripes then record { object = job.subject; turns = longest_stripes } ∷ []
       else [])
   old-tasks = kept.tasks
-      ∙ ap (λ (w : Wish). tasks_made (turns_for s w) (targets_of w job.profile job.subject job.pinned.items))
+      ∙ ap (λ w. tasks_made (turns_for s w) (targets_of w job.profile job.subject job.pinned.items))
       old-wish
 
   new-tasks : v.items
@@ -192,38 +187,37 @@ module _ (s : Setup) (job : Job) (kept : IsJobKept s job) (k size stripes : ℕ)
   made : v.items
       ≡ tasks_made (turns_for s ended.wish) (targets_of ended.wish job.profile job.subject job.pinned.items)
   made = new-tasks
-      ∙ ap (λ (w : Wish). tasks_made (turns_for s w) (targets_of w job.profile job.subject job.pinned.items))
+      ∙ ap (λ w. tasks_made (turns_for s w) (targets_of w job.profile job.subject job.pinned.items))
       (sym new-wish)
 
   listed : rest_of s.n ended ≡ rest_in s (core_job ended)
-  listed = rest_is s.n ended (cursor_behind job.subject k stripes) refl
-      ∙ ((λ i. rest_from s.n (new-wish i) job.flagged v.items (cursor_behind job.subject k (all i)))
-      ∙ (rest-cursor s is-put.name size is-put.own job.flagged v.items job.subject k own_stripes new-fits
-      new-tasks ∙ sym new-rest))
+  listed = rest_is s.n ended refl ∙ ((λ i. rest_from s.n (new-wish i) job.flagged v.items (cursor_behind
+      job.subject k (all i))) ∙ (rest-cursor s is-put.name size is-put.own job.flagged v.items job.subject k
+      own_stripes new-fits new-tasks ∙ sym new-rest))
 
   -- it may make so many steps
   new-left : steps_behind s.n k stripes ≡ most_of s (core_job ended)
-  new-left =
-      let a = most-put s ended_aim (rest_in s (core_job ended)) (ap removes_older (ap aim_of_wish new-wish))
-      new-gates in
-      let b = ap (λ (xs : List Action). length xs) new-rest in
-      let d = behind-long s job.subject own_stripes k in
-      let e = ap (steps_behind s.n k) all in
-      omega (arith, a, b, d, e)
+  new-left = omega (
+    arith,
+    most-put s ended_aim (rest_in s (core_job ended)) (ap removes_older (ap aim_of_wish new-wish)) new-gates,
+    ap (λ (xs : List Action). length xs) new-rest,
+    behind-long s job.subject own_stripes k,
+    ap (steps_behind s.n k) all,
+  )
     where
       ended_aim : Aim
       ended_aim = aim_of_wish ended.wish
 
   old-left : job.left ≡ steps_behind s.n k longest_stripes
-  old-left =
-      let a = most-put s (aim_of_wish job.wish) (rest_in s (core_job job))
-      (ap removes_older (ap aim_of_wish old-wish))
-      (ap gates old-rest ∙ one-gate s job.subject longest_stripes k (listed_older job.older)) in
-      let b = ap (λ (xs : List Action). length xs) (old-rest
-      ∙ ap (λ (o : Option ℕ). behind s job.subject longest_stripes k (listed_older o)) none-older) in
-      let d = behind-long s job.subject longest_stripes k in
-      let e = kept.left in
-      omega (arith, a, b, d, e)
+  old-left = omega (
+    arith,
+    most-put s (aim_of_wish job.wish) (rest_in s (core_job job)) (ap removes_older (ap aim_of_wish old-wish))
+        (ap gates old-rest ∙ one-gate s job.subject longest_stripes k (listed_older job.older)),
+    ap (λ (xs : List Action). length xs) (old-rest
+        ∙ ap (λ (o : Option ℕ). behind s job.subject longest_stripes k (listed_older o)) none-older),
+    behind-long s job.subject longest_stripes k,
+    kept.left,
+  )
 
   -- not more than before
   pub ended-left : steps_behind s.n k stripes ≤ job.left
@@ -236,8 +230,7 @@ module _ (s : Setup) (job : Job) (kept : IsJobKept s job) (k size stripes : ℕ)
   ended-steady : IsSteadyJob s.n ended
   ended-steady = record {
     stays = record {
-      tasks = subst (All (λ (t : Task). 0 < t.turns)) (sym made)
-          (tasks-all (turns_for s ended.wish)
+      tasks = subst (All (λ (t : Task). 0 < t.turns)) (sym made) (tasks-all (turns_for s ended.wish)
           (targets_of ended.wish job.profile job.subject job.pinned.items));
       idle = λ h. absurd (false≢true (sym h ∙ ap is_caller new-wish));
       wishable = (
@@ -285,10 +278,10 @@ module _ (s : Setup) (job : Job) (kept : IsJobKept s job) (k size stripes : ℕ)
   -- it needs the room that it needed
   pub ended-room : (i : ℕ) → reserved_of i s (core_job ended) ≤ reserved_of i s (core_job job)
   ended-room i =
-      let a = ap (λ (w : Wish). room_left i s (aim_of_wish w) (appends_in s (core_job ended))) new-wish in
+      let a = ap (λ w. room_left i s (aim_of_wish w) (appends_in s (core_job ended))) new-wish in
       let b = ap (room_left i s (ToPut is-put.name size))
       (new-gates ∙ (sym one-left ∙ kept.appends)) in
-      let d = ap (λ (w : Wish). room_left i s (aim_of_wish w) (appends_in s (core_job job))) old-wish in
+      let d = ap (λ w. room_left i s (aim_of_wish w) (appends_in s (core_job job))) old-wish in
       let e : room_left i s (ToPut is-put.name size) (appends_in s (core_job job))
       ≡ room_left i s (ToPut is-put.name (2 ^ 22)) (appends_in s (core_job job)) = refl in
       omega (arith, a, b, d, e)
@@ -296,12 +289,12 @@ module _ (s : Setup) (job : Job) (kept : IsJobKept s job) (k size stripes : ℕ)
   -- and no PutStart
   pub ended-starts : starts_of s (core_job ended) ≤ starts_of s (core_job job)
   ended-starts =
-      let a = ap (λ (w : Wish). starts_by (aim_of_wish w) (appends_in s (core_job ended))) new-wish in
+      let a = ap (λ w. starts_by (aim_of_wish w) (appends_in s (core_job ended))) new-wish in
       let b = ap (starts_by (ToPut is-put.name size)) new-gates in
       let z : starts_by (ToPut is-put.name size) 1 ≡ 0 = refl in
       omega (arith, a, b, z)
 
   -- it is an upgrade as little as before
   pub ended-aim : is_upgrade (aim_of_wish ended.wish) ≡ is_upgrade (aim_of_wish job.wish)
-  ended-aim = ap (λ (w : Wish). is_upgrade (aim_of_wish w)) new-wish
-      ∙ sym (ap (λ (w : Wish). is_upgrade (aim_of_wish w)) old-wish)
+  ended-aim = ap (λ w. is_upgrade (aim_of_wish w)) new-wish
+      ∙ sym (ap (λ w. is_upgrade (aim_of_wish w)) old-wish)

@@ -1,5 +1,5 @@
 -- A job that begins an append takes its number.
-use Rattle.vault_core.proofs.Words.{◌≡◌, ℕ, ◌+◌, ◌-◌, false, Some, set, get_or, refl, ap, sym, subst, ◌∙◌, Global, slice_get, Setup, Action, WriteBody, Kept, Inside, CoreJob, CoreView, rest_of, drawn_tasks, setup_kept, core_job, view_of, is_over, IsSteadyJob, IsJobKept, IsCore, first_at, stepped_job, number_as, number_drawn, drawn, aim_of_wish}
+use Rattle.vault_core.proofs.Words.{◌≡◌, ℕ, ◌+◌, ◌-◌, false, Some, set, get_or, refl, ap, sym, ◌∙◌, Global, slice_get, Setup, WriteBody, Kept, Inside, CoreJob, CoreView, rest_of, drawn_tasks, setup_kept, core_job, view_of, is_over, IsSteadyJob, IsJobKept, IsCore, first_at, stepped_job, number_as, number_drawn, drawn, aim_of_wish}
 use Rattle.std.proofs.Common.{drop}
 use Rattle.std.specs.declared.vec.Vec.{Vec}
 use Rattle.vault_core.specs.declared.job.Job.{Job}
@@ -16,10 +16,10 @@ pub record StartHere (a : Inside) (place : ℕ) (job : Job) : Type 0 where
   pub starts : slice_get (rest_of a.setup.n job) 0 ≡ Some WriteBody
 
 -- a core's job whose next action writes a body is at a place, is kept, and is at such a write
-pub start_here : (a : Inside) (c : CoreView) (place : ℕ) (job : Job) → view_of a ≡ c → IsCore a →
+pub start_here : {a : Inside} {c : CoreView} (place : ℕ) {job : Job} → view_of a ≡ c → IsCore a →
     job ≡ get_or a.jobs.items place job → first_at c place ≡ Some WriteBody → StartHere a place job
-start_here a c place job v h e f =
-    let r = action_here a c place job WriteBody v h e f in
+start_here {a} {c} place {job} v h e f =
+    let r = action_here place v h e f in
     record { here = r.1; kept = r.2; starts = r.3 }
 
 -- a job that has taken its number: it is kept, and about to make the same move
@@ -34,61 +34,55 @@ drawn_mid : (s : Setup) (old mid : Job) (k : ℕ) (t : Kept) → IsJobKept s old
     mid ≡ record old { subject = mid.subject; tasks = mid.tasks } →
     k ≡ number_as t old.appends old.subject (aim_of_wish old.wish) → DrawnHere s mid
 drawn_mid s old mid k t kept starts subject tasks same number =
-    let now = subst (IsJobKept s) (sym same)
-    (drawn_kept s old mid.subject mid.tasks kept
+    let now = rw (← same) at (drawn_kept s old mid.subject mid.tasks kept
     (tasks ∙ ap (λ (i : ℕ). drawn_tasks i old.wish old.tasks.items) (sym subject)) t starts
     (subject ∙ number)) in
-    let begins : slice_get (rest_of s.n mid) 0 ≡ Some WriteBody = first_is s.n mid now.steady
-    ∙ ap (λ (a : Action). Some a) (ap (λ (x : Job). action_at x.wish x.cursor) same
-    ∙ cursor_at s.n old WriteBody kept.steady starts) in
+    let begins = first_is s.n mid now.steady ∙ ap (λ a. Some a) (ap (λ x. action_at x.wish x.cursor) same ∙
+    cursor_at kept.steady starts) in
     record { kept = now; starts = begins; going = not_over s.n mid WriteBody now.steady begins (λ e. cc) }
 
 -- two jobs that are seen alike draw the same number
 number_alike : (s : Setup) (t : Kept) (i j : Job) → IsJobKept s i → IsJobKept s j → core_job i ≡ core_job j →
     number_as t i.appends i.subject (aim_of_wish i.wish) ≡ number_as t j.appends j.subject
     (aim_of_wish j.wish)
-number_alike s t i j a b e =
-    ap (λ (n : ℕ). number_as t n i.subject (aim_of_wish i.wish)) a.appends
+number_alike s t i j a b e = ap (λ n. number_as t n i.subject (aim_of_wish i.wish)) a.appends
     ∙ (ap (number_drawn s t) e
-    ∙ ap (λ (n : ℕ). number_as t n j.subject (aim_of_wish j.wish)) (sym b.appends))
+    ∙ ap (λ n. number_as t n j.subject (aim_of_wish j.wish)) (sym b.appends))
 
 -- so is the job at a place that has taken the number that a core told
-pub drawn_here : (a : Inside) (c : CoreView) (place : ℕ) (old index mid : Job) (k : ℕ) → view_of a ≡ c →
+pub drawn_here : {a : Inside} {c : CoreView} (place : ℕ) {old index mid : Job} {k : ℕ} → view_of a ≡ c →
     IsCore a → old ≡ get_or a.jobs.items place old → index ≡ get_or a.jobs.items place index →
     first_at c place ≡ Some WriteBody → mid.subject ≡ k →
     mid.tasks.items ≡ drawn_tasks k old.wish old.tasks.items →
     mid ≡ record old { subject = mid.subject; tasks = mid.tasks } →
-    k ≡ number_as c.table index.appends index.subject (aim_of_wish index.wish) →
-    DrawnHere (setup_kept a) mid
-drawn_here a c place old index mid k v h e f first subject tasks same number =
-    let here = start_here a c place old v h e first in
-    let other = start_here a c place index v h f first in
-    let g : Some (core_job index) ≡ Some (core_job old) = sym other.here ∙ here.here in
-    let alike : core_job index ≡ core_job old = cc in
+    k ≡ number_as c.table index.appends index.subject (aim_of_wish index.wish) → DrawnHere (setup_kept a) mid
+drawn_here {a} {c} place {old} {index} {mid} {k} v h e f first subject tasks same number =
+    let here = start_here place v h e first in
+    let other = start_here place v h f first in
+    let g = sym other.here ∙ here.here in
     drawn_mid (setup_kept a) old mid k c.table here.kept here.starts subject tasks same
-    (number ∙ number_alike (setup_kept a) c.table index old other.kept here.kept alike)
+    (number ∙ number_alike (setup_kept a) c.table index old other.kept here.kept cc)
 
 -- one action later it needs no more than before
-pub drawn_needs : (s : Setup) (old mid : Job) → IsJobKept s old → DrawnHere s mid →
+pub drawn_needs : {s : Setup} {old mid : Job} → IsJobKept s old → DrawnHere s mid →
     mid ≡ record old { subject = mid.subject; tasks = mid.tasks } → (new : Job) → IsSteadyJob s.n new →
     rest_of s.n new ≡ drop 1 (rest_of s.n mid) →
     new ≡ record mid { cursor = new.cursor; place = mid.place + 1; left = mid.left - 1 } → WentOn s old new
-drawn_needs s old mid kept drawn_ same new steady rest moved =
-    went_needs s old new kept
-    (went_on s mid new WriteBody drawn_.kept drawn_.starts refl steady rest moved).kept
-    (ap (λ (x : Job). x.wish) moved ∙ ap (λ (x : Job). x.wish) same)
-    (ap (λ (x : Job). x.appends) moved ∙ ap (λ (x : Job). x.appends) same)
+drawn_needs {s} {old} {mid} kept drawn_ same new steady rest moved =
+    went_needs kept (went_on drawn_.kept drawn_.starts refl steady rest moved).kept (ap (λ x. x.wish) moved ∙
+    ap (λ x. x.wish) same) (ap (λ x. x.appends) moved ∙ ap (λ x. x.appends) same)
 
 -- a contract sees of it a job that has begun its append with this number
-pub seen_drawn : (old mid : Job) (k : ℕ) → mid.subject ≡ k →
+pub seen_drawn : (old : Job) {mid : Job} {k : ℕ} → mid.subject ≡ k →
     mid ≡ record old { subject = mid.subject; tasks = mid.tasks } → (new : Job) →
     new ≡ record mid { cursor = new.cursor; place = mid.place + 1; left = mid.left - 1 } →
     core_job new ≡ drawn (core_job old) k
-seen_drawn old mid k subject same new moved =
-    ap core_job moved ∙ (ap (λ (x : Job). stepped_job (core_job x)) same ∙ ap (drawn (core_job old)) subject)
+seen_drawn old subject same new moved =
+    ap core_job moved ∙ (ap (λ x. stepped_job (core_job x)) same ∙ ap (drawn (core_job old)) subject)
 
 -- a core whose job began its append looks as the contract of that step says
-pub begun_view : (a : Inside) (c : CoreView) (v : Vec Job Global) (place k : ℕ) (old new index : Job) →
+pub begun_view : (a : Inside) {c : CoreView} (v : Vec Job Global) (place : ℕ) {k : ℕ} (old new : Job) {index
+    : Job} →
     view_of a ≡ c → v.items ≡ set a.jobs.items place new →
     slice_get (view_of a).jobs place ≡ Some (core_job old) →
     slice_get (view_of a).jobs place ≡ Some (core_job index) → IsJobKept (setup_kept a) index →
@@ -100,7 +94,7 @@ pub begun_view : (a : Inside) (c : CoreView) (v : Vec Job Global) (place k : ℕ
       jobs = set c.jobs place (drawn j (number_drawn c.setup c.table j));
       append = Some j.number;
     }
-begun_view a c v place k old new index view e here here2 kept s num j g =
+begun_view a {c} v place {k} old new {index} view e here here2 kept s num j g =
     let at : slice_get (view_of a).jobs place ≡ Some j = ap (λ (x : CoreView). slice_get x.jobs place) view
     ∙ g in
     let one : Some (core_job old) ≡ Some j = sym here ∙ at in
@@ -113,7 +107,7 @@ begun_view a c v place k old new index view e here here2 kept s num j g =
     ∙ ap (number_drawn c.setup c.table) is_index)) in
     let is_new : core_job new ≡ drawn j (number_drawn c.setup c.table j) =
     s ∙ (λ i. drawn (is_old i) (is_number i)) in
-    other_view a v place new (drawn j (number_drawn c.setup c.table j)) (Some new.number) e is_new
+    other_view a v place new (Some new.number) e is_new
     ∙ (ap (λ (x : CoreView). record x {
       jobs = set x.jobs place (drawn j (number_drawn c.setup c.table j));
       append = Some new.number;

@@ -1,5 +1,5 @@
 -- A job as it is kept stays so when it goes on.
-use Rattle.vault_core.proofs.Words.{◌≡◌, ℕ, zero, suc, ◌+◌, ◌-◌, ◌<◌, ◌≤◌, Bool, true, false, cond, List, [], ◌∷◌, ◌++◌, Some, None, length, map, inl, inr, refl, ap, sym, subst, ◌∙◌, arith, Global, ◌⊎◌, ◌==◌, nat_lt, sum_by, slice_get, if◌then◌else◌, All, cases_Bool, false≢true, and_parts, eqb-true, lt-ltb, length-drop, sum_by-cons, All-map, Setup, Aim, ToPut, ToAudit, Action, WriteBody, SyncGate, Remove, End, append_actions, plan_actions, ends_append, removes_older, most_after, Counts, IsPadded, Kept, Wish, Cursor, Task, CoreJob, core_pins, plan_in, planned, planned_by, rest_in, appends_in, numbers, tasks_from, rest_from, rest_of, closing_of, targets_of, stripes_in, turns_for, tasks_made, most_of, is_move, number_as, taken_as, aimed, is_taker, decides_on, drawn_tasks, listed_older, removals_of, LeavesBehind, comes_to, is_caller, plan_kept, core_job, IsSteadyJob, IsJobKept, size_of_turn, aim_of_wish, is_opener}
+use Rattle.vault_core.proofs.Words.{◌≡◌, ℕ, zero, suc, ◌+◌, ◌-◌, ◌<◌, ◌≤◌, Bool, true, false, cond, List, [], ◌∷◌, ◌++◌, Some, None, length, map, inl, inr, refl, ap, sym, subst, ◌∙◌, arith, Global, ◌⊎◌, ◌==◌, nat_lt, sum_by, slice_get, if◌then◌else◌, All, cases_Bool, false≢true, and_parts, eqb-true, lt-ltb, length-drop, sum_by-cons, All-map, Setup, Aim, ToPut, ToAudit, Action, WriteBody, SyncGate, Remove, End, append_actions, plan_actions, ends_append, removes_older, most_after, Counts, IsPadded, Kept, Wish, Cursor, Task, CoreJob, core_pins, plan_in, planned, planned_by, rest_in, appends_in, numbers, tasks_from, rest_from, rest_of, closing_of, targets_of, stripes_in, turns_for, tasks_made, most_of, is_move, number_as, taken_as, aimed, is_taker, decides_on, drawn_tasks, listed_older, removals_of, LeavesBehind, comes_to, is_caller, plan_kept, core_job, IsSteadyJob, IsJobKept, size_of_turn, aim_of_wish}
 use Rattle.std.proofs.Common.{◌*◌, Option, drop, length-append, Vec}
 use Rattle.std.specs.Prelude.{◌&&◌}
 use Rattle.vault_core.specs.declared.pinned.Pinned.{Pinned}
@@ -10,7 +10,7 @@ use Rattle.vault_core.specs.declared.job.Job.{Job}
 use Rattle.vault_core.proofs.Rests.{rest_is, by_call}
 use Rattle.vault_core.proofs.Counts.{gates, gates-append, gates_behind, last_appends, moves_gates, closing_gates, removes_none, MayHave, moves_have}
 use Rattle.vault_core.proofs.Gates.{set_with, action_at, cursor_at, move_at, rest_some, takes, removals_length}
-use Rattle.vault_core.proofs.Whole.{front_of, whole, behind_last}
+use Rattle.vault_core.proofs.Whole.{whole, behind_last}
 use Rattle.vault_core.proofs.Turns.{length-from}
 
 -- ---- lists
@@ -28,8 +28,7 @@ drop_one (suc p) (x ∷ xs) =
 
 -- only before the first action a list is all there
 all_there : {X : Type 0} (p : ℕ) (xs : List X) → 0 < length xs → drop p xs ≡ xs → p ≡ 0
-all_there p xs l e = let a = ap (λ (ys : List _). length ys) e in let b = length-drop p xs in
-    omega (arith, a, b, l)
+all_there p xs l e = omega (arith, ap (λ (ys : List _). length ys) e, length-drop p xs, l)
 
 -- ---- what is counted of a job
 
@@ -47,11 +46,10 @@ extra_none false n = refl
 -- a list of as many actions with as many gates leaves as many steps
 pub most_same : (s : Setup) (aim : Aim) (xs ys : List Action) → length xs ≡ length ys → gates xs ≡ gates ys →
     most_after s aim xs ≡ most_after s aim ys
-most_same s aim xs ys l g =
-    ap (λ (k : ℕ). k + extra (removes_older aim) (gates xs) s.n) l
-    ∙ ap (λ (k : ℕ). length ys + extra (removes_older aim) k s.n) g
+most_same s aim xs ys l g = ap (λ k. k + extra (removes_older aim) (gates xs) s.n) l
+    ∙ ap (λ k. length ys + extra (removes_older aim) k s.n) g
 
-module _ (s : Setup) (job : Job) (kept : IsJobKept s job) where
+module _ {s : Setup} {job : Job} (kept : IsJobKept s job) where
   -- its appends are the gates from its cursor on
   pub appends_here : job.appends ≡ gates (rest_of s.n job)
   appends_here = kept.appends ∙ ap gates (sym kept.listed)
@@ -62,15 +60,14 @@ module _ (s : Setup) (job : Job) (kept : IsJobKept s job) where
 
   -- some step is left
   pub left_some : 0 < job.left
-  left_some = let a = left_here in let b = rest_some s.n job kept.steady in omega (arith, a, b)
+  left_some = omega (arith, left_here, rest_some kept.steady)
 
   -- where its next action is a move of an append, it has one or two appends
   pub may_have : (a : Action) → slice_get (rest_of s.n job) 0 ≡ Some a → is_move (Some a) ≡ true →
       MayHave job.wish job.appends
   unfolding rest_of
   may_have a h m = moves_have s.n job.wish job.flagged job.tasks.items job.cursor job.appends
-      (move_at job.wish job.cursor (ap (λ (x : Action). is_move (Some x))
-      (cursor_at s.n job a kept.steady h) ∙ m))
+      (move_at job.wish job.cursor (ap (λ x. is_move (Some x)) (cursor_at kept.steady h) ∙ m))
       kept.steady.comes appends_here
 
 -- ---- an action that ends no append
@@ -86,24 +83,24 @@ moved_kept s job c a kept steady rest head plain =
     let listed : rest_of s.n new ≡ rest_in s (core_job new) =
     rest ∙ (ap (drop 1) kept.listed ∙ drop_one job.place (planned s (plan_kept job))) in
     let g : gates (rest_of s.n job) ≡ gates (drop 1 (rest_of s.n job)) =
-    (let b = gates_behind (rest_of s.n job) a head in
-    let x = ap (λ (t : Bool). cond {A = ℕ} t 1 0) plain in omega (arith, b, x)) in
+    let b = gates_behind (rest_of s.n job) a head in
+    let x = ap (λ t. cond {A = ℕ} t 1 0) plain in omega (arith, b, x) in
     let appends : job.appends ≡ appends_in s (core_job new) =
-    appends_here s job kept ∙ (g ∙ ap gates (sym rest ∙ listed)) in
+    appends_here kept ∙ (g ∙ ap gates (sym rest ∙ listed)) in
     let most : job.left - 1 ≡ most_of s (core_job new) =
-    (let l = left_here s job kept in
-    let n = rest_some s.n job kept.steady in
+    let l = left_here kept in
+    let n = rest_some kept.steady in
     let d = length-drop 1 (rest_of s.n job) in
-    let e = ap (λ (k : ℕ). extra (removes_older (aim_of_wish job.wish)) k s.n) g in
+    let e = ap (λ k. extra (removes_older (aim_of_wish job.wish)) k s.n) g in
     let f = ap (most_after s (aim_of_wish job.wish)) (sym rest ∙ listed) in
-    omega (arith, l, n, d, e, f)) in
+    omega (arith, l, n, d, e, f) in
     record {
       steady = steady;
       tasks = kept.tasks;
       listed = listed;
       appends = appends;
       left = most;
-      fits = (let l = left_some s job kept in let f = kept.fits in omega (arith, l, f));
+      fits = (let l = left_some kept in let f = kept.fits in omega (arith, l, f));
       undecided = kept.undecided;
     }
 
@@ -113,7 +110,7 @@ pub judged_kept : (s : Setup) (job : Job) (u : ℕ) (cs : Counts) → IsJobKept 
 unfolding rest_of
 judged_kept s job u cs kept e padded = record {
   steady = record {
-    stays = set_with s.n job (record job { undecided = u; counts = cs }) refl refl refl
+    stays = set_with (record job { undecided = u; counts = cs }) refl refl refl
         kept.steady.stays.tasks kept.steady.stays.idle e padded kept.steady.stays;
     comes = kept.steady.comes;
     within = kept.steady.within;
@@ -147,7 +144,7 @@ aimed_made s v profile o k pins = refl
 
 drawn_turns : (k : ℕ) (w : Wish) (ts : List Task) → All (λ (t : Task). 0 < t.turns) ts →
     All (λ (t : Task). 0 < t.turns) (drawn_tasks k w ts)
-drawn_turns k (wish.Put name size own) ts h = All-map (λ (t : Task). 0 < t.turns) (aimed k) ts h
+drawn_turns k (wish.Put name size own) ts h = All-map (λ t. 0 < t.turns) (aimed k) ts h
 drawn_turns k w ts h = h
 
 drawn_idle : (k : ℕ) (w : Wish) (ts : List Task) → ts ≡ [] → drawn_tasks k w ts ≡ []
@@ -158,12 +155,14 @@ drawn_sizes : (k m : ℕ) (w : Wish) (ts : List Task) →
     sum_by (λ (t : Task). t.turns * m) (drawn_tasks k w ts) ≡ sum_by (λ (t : Task). t.turns * m) ts
 drawn_sizes k m (wish.Put name size own) ts = by ts
   where
-    by : (us : List Task) →
-        sum_by (λ (t : Task). t.turns * m) (map (aimed k) us) ≡ sum_by (λ (t : Task). t.turns * m) us
+    by : (us : List Task) → sum_by (λ t. t.turns * m) (map (aimed k) us) ≡ sum_by (λ t. t.turns * m) us
     by [] = refl
-    by (u ∷ us) =
-        (let a = sum_by-cons (λ (t : Task). t.turns * m) (aimed k u) (map (aimed k) us) in
-        let b = sum_by-cons (λ (t : Task). t.turns * m) u us in let i = by us in omega (arith, a, b, i))
+    by (u ∷ us) = (omega (
+      arith,
+      sum_by-cons (λ (t : Task). t.turns * m) (aimed k u) (map (aimed k) us),
+      sum_by-cons (λ (t : Task). t.turns * m) u us,
+      by us,
+    ))
 drawn_sizes k m w ts = refl
 
 -- a job whose next action begins an append is at the first move of its first append or of its last one
@@ -193,10 +192,8 @@ module _ (s : Setup) (job : Job) (k : ℕ) (v : Vec Task Global) (kept : IsJobKe
 
   steady_taken : IsSteadyJob s.n taken
   steady_taken = record {
-    stays = set_with s.n job taken refl refl refl
-        (subst (All (λ (t : Task). 0 < t.turns)) (sym is)
-        (drawn_turns k job.wish job.tasks.items kept.steady.stays.tasks))
-        (λ h. is ∙ drawn_idle k job.wish job.tasks.items (kept.steady.stays.idle h))
+    stays = set_with taken refl refl refl (rw (← is) at (drawn_turns k job.wish job.tasks.items
+        kept.steady.stays.tasks)) (λ h. is ∙ drawn_idle k job.wish job.tasks.items (kept.steady.stays.idle h))
         kept.steady.stays.counts kept.steady.stays.padded kept.steady.stays;
     comes = kept.steady.comes;
     within = kept.steady.within;
@@ -210,10 +207,9 @@ module _ (s : Setup) (job : Job) (k : ℕ) (v : Vec Task Global) (kept : IsJobKe
     steady = steady_taken;
     tasks = tasks_taken;
     listed = listed;
-    appends = appends_here s job kept ∙ (sym g ∙ ap gates listed);
-    left = left_here s job kept
-        ∙ (sym (most_same s (aim_of_wish job.wish) (rest_of s.n taken) (rest_of s.n job) l g)
-        ∙ ap (most_after s (aim_of_wish job.wish)) listed);
+    appends = appends_here kept ∙ (sym g ∙ ap gates listed);
+    left = left_here kept ∙ (sym (most_same s (aim_of_wish job.wish) (rest_of s.n taken) (rest_of s.n job) l
+        g) ∙ ap (most_after s (aim_of_wish job.wish)) listed);
     fits = kept.fits;
     undecided = kept.undecided;
   }
@@ -221,29 +217,25 @@ module _ (s : Setup) (job : Job) (k : ℕ) (v : Vec Task Global) (kept : IsJobKe
   -- at its first append
   opens : job.cursor ≡ at.Opening move.Body → IsJobKept s taken
   opens c =
-      let opener : is_opener job.wish ≡ true =
-      subst (λ (x : Cursor). comes_to job.wish x ≡ true) c kept.steady.comes in
-      let front : front_of job.wish ≡ append_actions =
-      ap (λ (b : Bool). if b then append_actions else []) opener in
-      let old : rest_of s.n job ≡ append_actions ++ tasks_from s.n job.wish job.flagged job.tasks.items =
-      rest_is s.n job _ c in
-      let now : rest_of s.n taken ≡ append_actions ++ tasks_from s.n job.wish job.flagged v.items =
-      rest_is s.n taken _ c in
-      let some : 0 < job.appends = (let a = appends_here s job kept ∙ ap gates old in
+      let front =
+      ap (λ b. if b then append_actions else []) (subst (λ (x : Cursor). comes_to job.wish x ≡ true) c
+      kept.steady.comes) in
+      let old =
+      rest_is s.n job c in
+      let now =
+      rest_is s.n taken c in
+      let older = kept.undecided (let a = appends_here kept ∙ ap gates old in
       let b = moves_gates s.n job.wish job.flagged job.tasks.items move.Body in omega (arith, a, b)) in
-      let older = kept.undecided some in
-      let first : rest_of s.n job ≡ planned s (plan_kept job) = old
-      ∙ (ap (λ (xs : List Action). xs ++ tasks_from s.n job.wish job.flagged job.tasks.items) (sym front)
+      let first = old
+      ∙ (ap (λ xs. xs ++ tasks_from s.n job.wish job.flagged job.tasks.items) (sym front)
       ∙ whole s job older kept.steady.stays.idle kept.tasks) in
-      let begun : job.place ≡ 0 = all_there job.place (planned s (plan_kept job))
-      (let n = rest_some s.n job kept.steady in let e = ap (λ (xs : List Action). length xs) first in
-      omega (arith, n, e))
-      (sym kept.listed ∙ first) in
-      let again : rest_of s.n taken ≡ planned s (plan_kept taken) = now
+      kept_taken ((now
       ∙ (ap (λ (xs : List Action). xs ++ tasks_from s.n job.wish job.flagged v.items) (sym front)
-      ∙ whole s taken older steady_taken.stays.idle tasks_taken) in
-      let long : length (rest_of s.n taken) ≡ length (rest_of s.n job) =
-      (let a = ap (λ (xs : List Action). length xs) old in
+      ∙ whole s taken older steady_taken.stays.idle tasks_taken)) ∙ ap (λ p. drop p
+      (planned s (plan_kept taken))) (sym (all_there job.place (planned s (plan_kept job))
+      (let n = rest_some kept.steady in let e = ap (λ (xs : List Action). length xs) first in
+      omega (arith, n, e))
+      (sym kept.listed ∙ first)))) (let a = ap (λ (xs : List Action). length xs) old in
       let b = ap (λ (xs : List Action). length xs) now in
       let c = length-append append_actions (tasks_from s.n job.wish job.flagged job.tasks.items) in
       let d = length-append append_actions (tasks_from s.n job.wish job.flagged v.items) in
@@ -252,33 +244,29 @@ module _ (s : Setup) (job : Job) (k : ℕ) (v : Vec Task Global) (kept : IsJobKe
       let g = ap (λ (ts : List Task). sum_by
       (λ (t : Task). t.turns * size_of_turn s.n job.wish job.flagged) ts) is
       ∙ drawn_sizes k (size_of_turn s.n job.wish job.flagged) job.wish job.tasks.items in
-      omega (arith, a, b, c, d, e, f, g)) in
-      let same : gates (rest_of s.n taken) ≡ gates (rest_of s.n job) =
-      (let a = ap gates old in
+      omega (arith, a, b, c, d, e, f, g)) (let a = ap gates old in
       let b = ap gates now in
       let c = moves_gates s.n job.wish job.flagged job.tasks.items move.Body in
       let d = moves_gates s.n job.wish job.flagged v.items move.Body in
-      omega (arith, a, b, c, d)) in
-      kept_taken (again ∙ ap (λ (p : ℕ). drop p (planned s (plan_kept taken))) (sym begun)) long same
+      omega (arith, a, b, c, d))
 
   -- at its last append its number stays
   closes : job.cursor ≡ at.Closing move.Body → k ≡ job.subject → IsJobKept s taken
   closes c e =
-      let old : rest_of s.n job ≡ append_actions ++ End ∷ [] = rest_is s.n job _ c in
-      let now : rest_of s.n taken ≡ append_actions ++ End ∷ [] = rest_is s.n taken _ c in
+      let old = rest_is s.n job c in
+      let now = rest_is s.n taken c in
       kept_taken (now ∙ (sym old ∙ (kept.listed
-      ∙ ap (λ (i : ℕ). drop job.place (planned s (record (plan_kept job) { subject = i }))) (sym e))))
-      (ap (λ (xs : List Action). length xs) (now ∙ sym old)) (ap gates (now ∙ sym old))
+      ∙ ap (λ i. drop job.place (planned s (record (plan_kept job) { subject = i }))) (sym e))))
+      (ap (λ xs. length xs) (now ∙ sym old)) (ap gates (now ∙ sym old))
 
   -- the number that the append draws, or has drawn
   pub drawn_kept : (t : Kept) → slice_get (rest_of s.n job) 0 ≡ Some WriteBody →
       k ≡ number_as t job.appends job.subject (aim_of_wish job.wish) → IsJobKept s taken
-  drawn_kept t h e = elim (at_start job.wish job.cursor (cursor_at s.n job WriteBody kept.steady h)) [
+  drawn_kept t h e = elim (at_start job.wish job.cursor (cursor_at kept.steady h)) [
     | inl c ↦ opens c
     | inr c ↦ closes c (e ∙ (ap (λ (a : ℕ). number_as t a job.subject (aim_of_wish job.wish))
-        (appends_here s job kept ∙ (ap gates (rest_is s.n job _ c)
-        ∙ closing_gates s.n job.wish job.flagged job.tasks.items move.Body))
-        ∙ number_one t job.subject (aim_of_wish job.wish)))
+        (appends_here kept ∙ (ap gates (rest_is s.n job c) ∙ closing_gates s.n job.wish job.flagged
+        job.tasks.items move.Body)) ∙ number_one t job.subject (aim_of_wish job.wish)))
   ]
 
 -- ---- the last move of an append
@@ -303,12 +291,11 @@ module _ (s : Setup) (job : Job) (kept : IsJobKept s job) (gate : slice_get (res
     0 ≡ Some SyncGate)
   where
     has : MayHave job.wish job.appends
-    has = may_have s job kept SyncGate gate refl
+    has = may_have kept SyncGate gate refl
 
     -- it has this append before it
     pub gate_some : 0 < job.appends
-    gate_some = let a = appends_here s job kept in let b = gates_behind (rest_of s.n job) SyncGate gate in
-        omega (arith, a, b)
+    gate_some = omega (arith, (appends_here kept), gates_behind (rest_of s.n job) SyncGate gate)
 
     -- it takes nothing away yet
     pub gate_older : job.older ≡ None
@@ -318,9 +305,7 @@ module _ (s : Setup) (job : Job) (kept : IsJobKept s job) (gate : slice_get (res
     decided_parts : decides_on job ≡ true → (job.appends ≡ 1) × (is_taker job.wish ≡ true)
     decided_parts d =
         let p = and_parts (job.appends - 1 == 0) (is_taker job.wish) d in
-        let e = eqb-true (job.appends - 1) 0 p.0 in
-        let g = gate_some in
-        ((omega (arith, e, g)), p.1)
+        ((omega (arith, eqb-true (job.appends - 1) 0 p.0, gate_some)), p.1)
 
     -- and where it does not, nothing is taken away, or a further append is left
     pub undecided_more : decides_on job ≡ false → removes_older (aim_of_wish job.wish) ≡ true →
@@ -341,8 +326,7 @@ module _ (s : Setup) (job : Job) (kept : IsJobKept s job) (gate : slice_get (res
         by (wish.Put name size own) e = ap (λ (k : ℕ). taken_as t jobs k (ToPut name size))
             (undecided_more d (ap (λ (w : Wish). removes_older (aim_of_wish w)) e))
         by (wish.Drop name) e = absurd (let k = undecided_more d
-            (ap (λ (w : Wish). removes_older (aim_of_wish w)) e) in drops k
-            (subst (λ (w : Wish). MayHave w job.appends) e has))
+            (ap (λ (w : Wish). removes_older (aim_of_wish w)) e) in drops k (rw e at has))
           where
             drops : job.appends ≡ 2 → MayHave (wish.Drop name) job.appends → ⊥
             drops k (inl p) = (let q = p.0 in omega (arith, k, q))
@@ -353,10 +337,10 @@ module _ (s : Setup) (job : Job) (kept : IsJobKept s job) (gate : slice_get (res
     decides_rest : decides_on job ≡ true → rest_of s.n job ≡ SyncGate ∷ End ∷ []
     decides_rest d =
         let p = decided_parts d in
-        elim (at_gate job.wish job.cursor (cursor_at s.n job SyncGate kept.steady gate)) [
-          | inr c ↦ rest_is s.n job _ c
-          | inl c ↦ rest_is s.n job _ c ∙ by job.wish refl p.1 p.0 (appends_here s job kept
-              ∙ ap gates (rest_is s.n job _ c))
+        elim (at_gate job.wish job.cursor (cursor_at kept.steady gate)) [
+          | inr c ↦ rest_is s.n job c
+          | inl c ↦ rest_is s.n job c ∙ by job.wish refl p.1 p.0 (appends_here kept
+              ∙ ap gates (rest_is s.n job c))
         ]
       where
         by : (w : Wish) → job.wish ≡ w → is_taker w ≡ true → job.appends ≡ 1 →
@@ -367,16 +351,14 @@ module _ (s : Setup) (job : Job) (kept : IsJobKept s job) (gate : slice_get (res
             (let a = moves_gates s.n job.wish job.flagged job.tasks.items move.GateSync in
             let b = ap last_appends e in let c : last_appends (wish.Put name size own) ≡ 1 = refl in
             omega (arith, one, g, a, b, c))
-        by (wish.Drop name) e t one g =
-            ap (λ (ts : List Task). SyncGate ∷ tasks_from s.n job.wish job.flagged ts)
+        by (wish.Drop name) e t one g = ap (λ ts. SyncGate ∷ tasks_from s.n job.wish job.flagged ts)
             (kept.steady.stays.idle (ap is_caller e))
-            ∙ ap (λ (w : Wish). SyncGate ∷ closing_of w) e
+            ∙ ap (λ w. SyncGate ∷ closing_of w) e
         by w e t one g = absurd (false≢true t)
 
     -- so many steps are left of one that decides: this one, a removal each, and its end
     pub decides_left : decides_on job ≡ true → job.left ≡ 2 + s.n
-    decides_left d = left_here s job kept
-        ∙ rw (decides_rest d, takes job.wish (decided_parts d).1) refl
+    decides_left d = left_here kept ∙ rw (decides_rest d, takes job.wish (decided_parts d).1) refl
 
 module _ (s : Setup) (job : Job) (kept : IsJobKept s job) (gate : slice_get (rest_of s.n job)
     0 ≡ Some SyncGate)
@@ -396,19 +378,20 @@ module _ (s : Setup) (job : Job) (kept : IsJobKept s job) (gate : slice_get (res
       (record (plan_in (plan_kept job)) { older = [] })
       (aim_of_wish job.wish)
   unfolding planned_by
-  bare = ap (λ (o : Option ℕ). plan_actions core_pins s
-      (record (plan_in (plan_kept job)) { older = listed_older o }) (aim_of_wish job.wish))
-      (gate_older s job kept gate)
+  bare = ap (λ o. plan_actions core_pins s (record (plan_in (plan_kept job)) { older = listed_older o })
+      (aim_of_wish job.wish)) (gate_older s job kept gate)
 
   no_gates : (o : Option ℕ) → gates (removals_of s.n o) ≡ 0
   no_gates None = refl
-  no_gates (Some object) =
-      (let a = gates-append (map (λ j. Remove j object) (numbers 0 s.n)) (End ∷ []) in
-      let b = removes_none object (numbers 0 s.n) in omega (arith, a, b))
+  no_gates (Some object) = (omega (
+    arith,
+    gates-append (map (λ j. Remove j object) (numbers 0 s.n)) (End ∷ []),
+    removes_none object (numbers 0 s.n),
+  ))
 
   few : (o : Option ℕ) → length (removals_of s.n o) ≤ 1 + s.n
   few None = omega arith
-  few (Some object) = (let a = removals_length s.n object in omega (arith, a))
+  few (Some object) = omega (arith, removals_length s.n object)
 
   -- one that has decided on what it takes away
   decided_kept : decides_on job ≡ true → IsSteadyJob s.n finished →
@@ -417,31 +400,27 @@ module _ (s : Setup) (job : Job) (kept : IsJobKept s job) (gate : slice_get (res
   unfolding planned_by
   decided_kept d steady h =
       let p = decided_parts s job kept gate d in
-      let listed : rest_of s.n finished ≡ rest_in s (core_job finished) = h.0
+      let listed = h.0
       ∙ sym (behind_last s (plan_in (plan_kept job)) job.wish job.place older p.1
       (ap (drop job.place) (sym bare) ∙ (sym kept.listed ∙ decides_rest s job kept gate d))) in
-      let none_left : gates (rest_in s (core_job finished)) ≡ 0 = ap gates (sym listed ∙ h.0)
+      let none_left = ap gates (sym listed ∙ h.0)
       ∙ no_gates older in
-      let most : l ≡ most_of s (core_job finished) =
-      h.1 ∙ (ap (λ (xs : List Action). length xs) (sym h.0 ∙ listed)
-      ∙ (let a = ap (λ (k : ℕ). extra (removes_older (aim_of_wish job.wish)) k s.n) none_left in
+      let most =
+      h.1 ∙ (ap (λ xs. length xs) (sym h.0 ∙ listed)
+      ∙ (let a = ap (λ k. extra (removes_older (aim_of_wish job.wish)) k s.n) none_left in
       let b = extra_none (removes_older (aim_of_wish job.wish)) s.n in
-      let e : length (rest_in s (core_job finished))
-      ≡ length (rest_in s (core_job finished)) + extra (removes_older (aim_of_wish job.wish))
-      (gates (rest_in s (core_job finished))) s.n = omega (arith, a, b) in e)) in
+      omega (arith, a, b))) in
       record {
         steady = steady;
         tasks = kept.tasks;
         listed = listed;
-        appends = (let a = p.0 in let b = none_left in omega (arith, a, b));
+        appends = omega (arith, p.0, none_left);
         left = most;
-        fits = (let a = kept.fits in let b = decides_left s job kept gate d in let e = h.1 in
-            let z = few older in omega (arith, a, b, e, z));
-        undecided = λ some. absurd (let a = p.0 in omega (arith, a, some));
+        fits = omega (arith, kept.fits, decides_left s job kept gate d, h.1, few older);
+        undecided = λ some. absurd (omega (arith, p.0, some));
       }
 
-  extras : (b : Bool) → (b ≡ true → job.appends ≡ 2) →
-      extra b (job.appends - 1) s.n ≡ extra b job.appends s.n
+  extras : (b : Bool) → (b ≡ true → job.appends ≡ 2) → extra b (job.appends - 1) s.n ≡ extra b job.appends s.n
   extras false h = refl
   extras true h = (let k = h refl in
       extra_more true (job.appends - 1) job.appends s.n (omega (arith, k)) (omega (arith, k)))
@@ -451,33 +430,34 @@ module _ (s : Setup) (job : Job) (kept : IsJobKept s job) (gate : slice_get (res
       (rest_of s.n finished ≡ drop 1 (rest_of s.n job)) × (l ≡ job.left - 1) → IsJobKept s finished
   unfolding planned_by
   undecided_kept d none steady h =
-      let same : planned s (plan_kept finished) ≡ planned s (plan_kept job) =
-      ap (λ (o : Option ℕ). plan_actions core_pins s (record (plan_in (plan_kept job))
-      { older = listed_older o })
-      (aim_of_wish job.wish)) (none ∙ sym (gate_older s job kept gate)) in
       let listed : rest_of s.n finished ≡ rest_in s (core_job finished) = h.0 ∙ (ap (drop 1) kept.listed
-      ∙ (drop_one job.place (planned s (plan_kept job)) ∙ ap (drop (job.place + 1)) (sym same))) in
-      let head = gates_behind (rest_of s.n job) SyncGate gate in
+      ∙ (drop_one job.place (planned s (plan_kept job)) ∙
+      ap (drop (job.place + 1)) (sym (ap (λ (o : Option ℕ). plan_actions core_pins s
+      (record (plan_in (plan_kept job))
+      { older = listed_older o })
+      (aim_of_wish job.wish)) (none ∙ sym (gate_older s job kept gate)))))) in
       let fewer : gates (rest_in s (core_job finished)) ≡ job.appends - 1 =
-      (let a = appends_here s job kept in let b = ap gates (sym listed ∙ h.0) in
-      omega (arith, a, b, head)) in
-      let most : job.left - 1 ≡ most_of s (core_job finished) =
-      (let a = left_here s job kept in
-      let b = ap (λ (xs : List Action). length xs) (sym listed ∙ h.0) in
-      let e = length-drop 1 (rest_of s.n job) in
-      let n = rest_some s.n job kept.steady in
-      let x = extras (removes_older (aim_of_wish job.wish)) (undecided_more s job kept gate d) in
-      let y = ap (λ (k : ℕ). extra (removes_older (aim_of_wish job.wish)) k s.n) fewer in
-      let z = ap (λ (k : ℕ). extra (removes_older (aim_of_wish job.wish)) k s.n)
-      (sym (appends_here s job kept)) in
-      omega (arith, a, b, e, n, x, y, z)) in
+      omega (
+        arith,
+        (appends_here kept),
+        ap gates (sym listed ∙ h.0),
+        gates_behind (rest_of s.n job) SyncGate gate,
+      ) in
       record {
         steady = steady;
         tasks = kept.tasks;
         listed = listed;
         appends = sym fewer;
-        left = h.1 ∙ most;
-        fits = (let a = kept.fits in let b = left_some s job kept in let e = h.1 in omega (arith, a, b, e));
+        left = h.1 ∙ (let a = left_here kept in
+            let b = ap (λ (xs : List Action). length xs) (sym listed ∙ h.0) in
+            let e = length-drop 1 (rest_of s.n job) in
+            let n = rest_some kept.steady in
+            let x = extras (removes_older (aim_of_wish job.wish)) (undecided_more s job kept gate d) in
+            let y = ap (λ (k : ℕ). extra (removes_older (aim_of_wish job.wish)) k s.n) fewer in
+            let z = ap (λ (k : ℕ). extra (removes_older (aim_of_wish job.wish)) k s.n)
+            (sym (appends_here kept)) in
+            omega (arith, a, b, e, n, x, y, z));
+        fits = omega (arith, kept.fits, left_some kept, h.1);
         undecided = λ some. none;
       }
 
@@ -485,8 +465,6 @@ module _ (s : Setup) (job : Job) (kept : IsJobKept s job) (gate : slice_get (res
   pub finished_kept : IsSteadyJob s.n finished → LeavesBehind s.n older (decides_on job) job finished →
       (decides_on job ≡ false → older ≡ None) → IsJobKept s finished
   finished_kept steady behind none = elim (cases_Bool (decides_on job)) [
-    | inl d ↦ decided_kept d steady
-        (subst (λ (b : Bool). LeavesBehind s.n older b job finished) d behind)
-    | inr d ↦ undecided_kept d (none d) steady
-        (subst (λ (b : Bool). LeavesBehind s.n older b job finished) d behind)
+    | inl d ↦ decided_kept d steady (subst (λ b. LeavesBehind s.n older b job finished) d behind)
+    | inr d ↦ undecided_kept d (none d) steady (subst (λ b. LeavesBehind s.n older b job finished) d behind)
   ]

@@ -1,5 +1,5 @@
 -- Records of jobs are in the grammar.
-use Rattle.vault_core.proofs.Words.{◌≡◌, ℕ, ◌<◌, ◌≤◌, ◌^◌, true, length, take, List, subst, sym, nat_lt, All, list_all, lt-ltb, le-leb, length-take-le, All-take, list_all-from_AllPass, AuditDone, is_in_grammar, Counts, IsPadded, IsInGrammar}
+use Rattle.vault_core.proofs.Words.{◌≡◌, ℕ, ◌<◌, ◌≤◌, ◌^◌, true, take, List, nat_lt, All, list_all, lt-ltb, le-leb, length-take-le, All-take, list_all-from_AllPass, Counts, IsPadded, IsInGrammar}
 use Rattle.record_codec.specs.declared.records.Record.TheVariants as kind
 
 fit_all : (xs : List ℕ) → All (λ k. k < 2 ^ 32) xs → list_all (λ k. nat_lt k (2 ^ 32)) xs ≡ true
@@ -11,9 +11,8 @@ pub audit_done_in_grammar : (number undecided : ℕ) (counts : Counts) → numbe
     All (λ k. k < 2 ^ 32) counts.by → IsInGrammar (kind.AuditDone number undecided counts)
 audit_done_in_grammar number undecided counts a b c d padded all = record {
   spelled =
-      let len : length (take counts.n counts.by) ≡ counts.n =
-      length-take-le counts.n counts.by (subst (λ (k : ℕ). counts.n ≤ k) (sym padded.room) d) in
-      let spelled : is_in_grammar (AuditDone number undecided (take counts.n counts.by)) ≡ true =
+      let len =
+      length-take-le counts.n counts.by (rw (← padded.room) at d) in
       rw (
         len,
         lt-ltb number (2 ^ 64) a,
@@ -21,6 +20,6 @@ audit_done_in_grammar number undecided counts a b c d padded all = record {
         le-leb 4 counts.n c,
         le-leb counts.n 16 d,
       )
-      (fit_all (take counts.n counts.by) (All-take (λ k. k < 2 ^ 32) counts.n counts.by all)) in spelled;
+      (fit_all (take counts.n counts.by) (All-take (λ k. k < 2 ^ 32) counts.n counts.by all));
   padded = padded;
 }

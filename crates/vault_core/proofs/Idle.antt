@@ -1,10 +1,10 @@
 -- A core that what runs alone has told something.
-use Rattle.vault_core.proofs.Words.{◌≡◌, ◌∙◌, ℕ, ◌+◌, true, false, List, [], ◌∷◌, Some, None, refl, ap, sym, subst, arith, is_some, Setup, setup_of, version_of, packed, other_area, end_in, State, Append, setup_in, switched, barred, IsSound, IsFoldOf, forgotten, Inside, CoreJob, CoreView, AreRising, view_of, IsCore, IsCoreFlight, CoreIs}
+use Rattle.vault_core.proofs.Words.{◌≡◌, ◌∙◌, ℕ, ◌+◌, true, List, [], ◌∷◌, Some, None, refl, ap, sym, arith, is_some, Setup, setup_of, version_of, packed, other_area, end_in, State, Append, setup_in, switched, barred, IsSound, IsFoldOf, forgotten, Inside, CoreJob, CoreView, AreRising, view_of, IsCore, IsCoreFlight, CoreIs}
 use Rattle.std.proofs.Common.{Option}
 use Rattle.vault_table.proofs.Fold.{is_packed}
 
 rising_more : (low : ℕ) (js : List CoreJob) (next : ℕ) → AreRising low js next → AreRising low js (next + 1)
-rising_more low [] next h = (let a = h in omega arith)
+rising_more low [] next h = (omega (arith, h))
 rising_more low (j ∷ js) next h = (h.0, rising_more (j.number + 1) js next h.1)
 
 -- a core with one number drawn stays one
@@ -46,7 +46,7 @@ core-bar c w is free sound = record {
   end = is.end;
   jobs = is.jobs;
   next_job = is.next_job;
-  append = subst (IsCoreFlight c) free is.append;
+  append = rw free at is.append;
   barred = refl;
 }
 
@@ -58,7 +58,7 @@ forgotten-is c w is second = by (setup_of w.journal) refl
   where
     by : (o : Option Setup) → setup_of w.journal ≡ o → is_some (setup_of w.journal) ≡ true →
         IsFoldOf (packed w.journal) (forgotten c.table)
-    by None e h = (let f : false ≡ true = sym (ap is_some e) ∙ h in cc)
+    by None e h = cc (sym (ap is_some e) ∙ h)
     by (Some s) e h = is_packed c.table w.journal s is.sound.journal.accepted e
         (is.sound.journal.alike.version ∙ second) is.table
 
@@ -83,4 +83,4 @@ core-moved c w end is second free ends sound = record {
     by : (o : Option Append) → o ≡ None → IsCoreFlight c o →
         IsCoreFlight (record c { table = forgotten c.table; end = end }) o
     by None e f = f
-    by (Some a) e f = (let g : Some a ≡ None = e in cc)
+    by (Some a) e f = cc e

@@ -1,5 +1,5 @@
 -- The record of the append in flight.
-use Rattle.vault_core.proofs.Words.{◌≡◌, ◌+◌, ◌<◌, ℕ, inl, inr, refl, Bool, true, None, Some, sym, ap, subst, ◌∙◌, arith, if◌then◌else◌, ◌==◌, slice_get, cases_Bool, eqb-true, Action, actions_of, moves_before, Setup, State, Append, setup_in, next_action, CoreJob, CoreView, job_in, wanted_at, action_next, is_move, written_by, written_of, written_in, entry_of_found, entry_in, IsToldAs, IsJobOf, IsCoreFlight, CoreIs}
+use Rattle.vault_core.proofs.Words.{◌≡◌, ◌+◌, ◌<◌, ℕ, inl, inr, refl, None, Some, sym, ap, ◌∙◌, arith, if◌then◌else◌, ◌==◌, slice_get, cases_Bool, eqb-true, Action, actions_of, moves_before, Setup, State, Append, setup_in, CoreJob, CoreView, job_in, wanted_at, action_next, is_move, written_by, written_of, written_in, entry_of_found, entry_in, IsToldAs, IsJobOf, CoreIs}
 use Rattle.std.proofs.Common.{◌*◌, Option}
 use Rattle.machine_defs.specs.Jobs.{Job}
 use Rattle.vault_core.proofs.Alike.{table-like}
@@ -17,9 +17,12 @@ flies_free s j m is a stands begun = by j.told refl is.within
     by : (o : Option ℕ) → j.told ≡ o → IsToldAs s j o → wanted_at s j.place o ≡ None
     by None e h = refl
     by (Some k) e h = elim (cases_Bool (j.place == 4 + k * s.n)) [
-      | inl t ↦ absurd (let z = shared-waits s j m k is.place (shared s j m k is e h) a
-          (eqb-true j.place (4 + k * s.n) t) stands in omega (arith, z, begun))
-      | inr f ↦ ap (λ (b : Bool). if b then Some k else None) f
+      | inl t ↦ absurd (omega (
+        arith,
+        shared-waits is.place (shared is e h) a (eqb-true j.place (4 + k * s.n) t) stands,
+        begun,
+      ))
+      | inr f ↦ ap (λ b. if b then Some k else None) f
     ]
 
 -- it is the one that the core gives for its job
@@ -28,21 +31,16 @@ pub flight-entry : (c : CoreView) (w : State) (a : Append) → CoreIs c w → w.
 flight-entry c w a is e = by (job_in c.jobs a.job) refl
   where
     held : written_in c a.job ≡ Some a.entry
-    held = (subst (IsCoreFlight c) e is.append).1
+    held = (rw e at is.append).1
 
     by : (o : Option CoreJob) → job_in c.jobs a.job ≡ o → entry_in c a.job ≡ Some a.entry
-    by None f = (let g : None ≡ Some a.entry = sym (ap (written_of c.setup c.table) f) ∙ held in cc)
-    by (Some j) f =
-        (let p = pair_some c.setup c.jobs w.jobs a.job j is.jobs f in
-        let q = same_job c.setup (setup_in w) j p.job is.setup p.is in
-        let stands = flight-stands c w p.job a is p.runs e in
-        let free : wanted_at (setup_in w) j.place j.told ≡ None =
-        flies_free (setup_in w) j p.job q stands.0 stands.1.1 stands.1.2 in
-        let next : next_action w p.job ≡ action_next c.setup c.table j = next_same w c.table j
-        p.job (table-like c w is) q free
-        ∙ ap (λ (s : Setup). action_next s c.table j) (sym is.setup) in
-        let moves : is_move (action_next c.setup c.table j) ≡ true =
-        sym (ap is_move next) ∙ flight-moves c w p.job a is p.runs e in
+    by None f = cc (sym (ap (written_of c.setup c.table) f) ∙ held)
+    by (Some j) f = (let p = pair_some c.setup c.jobs w.jobs a.job j is.jobs f in
+        let q = same_job is.setup p.is in
+        let stands = flight-stands is p.runs e in
+        let next = next_same w (table-like c w is) q (flies_free (setup_in w) j p.job q stands.0 stands.1.1
+        stands.1.2) ∙ ap (λ s. action_next s c.table j) (sym is.setup) in
         ap (entry_of_found c.setup c.table) f
-        ∙ (ap (λ (b : Bool). if b then written_by c.setup c.table j else None) moves
+        ∙ (ap (λ b. if b then written_by c.setup c.table j else None) (sym (ap is_move next) ∙
+        flight-moves c w p.job a is p.runs e)
         ∙ (sym (ap (written_of c.setup c.table) f) ∙ held)))

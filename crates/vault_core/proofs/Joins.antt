@@ -1,10 +1,9 @@
 -- A job as it is made stands for the job that the machine adds.
-use Rattle.vault_core.proofs.Words.{◌≡◌, ℕ, ◌^◌, ◌≤◌, Bool, true, false, List, [], ◌∷◌, Some, None, length, map, inl, inr, refl, ap, sym, subst, ◌∙◌, arith, nat_lt, slice_get, cases_Bool, false≢true, In, Sums, Setup, File, Due, find_file, files_of, due_of, find-files_of, Kind, PutJob, RepairJob, ToPut, ToGet, ToAudit, ToRepair, Aim, aim_of, PinnedBytes, actions_of, machine_pins, pinned_file, pinned_for, due_number, due_flags, subject_at_begin, chosen, beginning, pin_by, pin_each, pin_found, pins_by, State, setup_in, file_in, Counts, counted, Kept, Wish, core_pins, plan_in, flag_at, stripe_size, IsLongest, IsTold, IsKindOf, IsAimOf, pin_of, seen_plan, sums_at_start, is_audit_kind, longest, shown, IsPutFrom, HasTold, IsJobOf, asks_next, listed_older, plan_kept, core_job, sums_kept, MayBegin, pin_of_file, pins_for, subject_for, IsMade, aim_of_wish, profile_named}
+use Rattle.vault_core.proofs.Words.{◌≡◌, ℕ, ◌^◌, ◌≤◌, Bool, true, false, List, [], ◌∷◌, Some, None, length, map, inl, inr, refl, ap, sym, subst, ◌∙◌, arith, nat_lt, slice_get, cases_Bool, false≢true, In, Sums, Setup, File, Due, find_file, files_of, due_of, find-files_of, Kind, PutJob, RepairJob, ToPut, ToGet, ToAudit, ToRepair, Aim, aim_of, PinnedBytes, actions_of, machine_pins, pinned_file, pinned_for, due_number, due_flags, subject_at_begin, chosen, beginning, pin_by, pin_each, pin_found, pins_by, State, setup_in, file_in, counted, Kept, Wish, core_pins, plan_in, flag_at, stripe_size, IsLongest, IsTold, IsKindOf, IsAimOf, pin_of, seen_plan, sums_at_start, is_audit_kind, longest, shown, IsPutFrom, HasTold, IsJobOf, asks_next, listed_older, plan_kept, core_job, sums_kept, MayBegin, pin_of_file, pins_for, subject_for, IsMade, aim_of_wish, profile_named}
 use Rattle.std.proofs.Common.{◌*◌, Option}
 use Rattle.std.specs.Prelude.{◌&&◌, not, replicate}
 use Rattle.machine_defs.proofs.RecordFacts.{listed_file}
 use Rattle.state_laws.specs.Follows.{AreHeld}
-use Rattle.vault_core.specs.declared.pinned.Pinned.{Pinned}
 use Rattle.vault_core.specs.declared.wish.Wish.TheVariants as wish
 use Rattle.vault_core.specs.declared.job.Job.{Job}
 use Rattle.vault_core.proofs.Alike.{IsLikeFoldOf}
@@ -18,16 +17,16 @@ map-pin : (p : PinnedBytes) (qs : List PinnedBytes) →
 map-pin p [] = refl
 map-pin p (q ∷ qs) = elim (cases_Bool (nat_lt p.id q.id)) [
   | inl t ↦ rw t refl
-  | inr f ↦ rw f (ap (λ (ps : List Pinned). pin_of q ∷ ps) (map-pin p qs))
+  | inr f ↦ rw f (ap (λ ps. pin_of q ∷ ps) (map-pin p qs))
 ]
 
 pin-file : (w : State) (f : File) → length (w.bytes f.id) ≡ f.size → pin_of_file f ≡ pin_of (pinned_file w f)
-pin-file w f e = ap (λ (k : ℕ). record { id = f.id; length = k; profile = f.profile }) (sym e)
+pin-file w f e = ap (λ k. record { id = f.id; length = k; profile = f.profile }) (sym e)
 
 pins-all : (w : State) (fs : List File) → ((f : File) → In f fs → length (w.bytes f.id) ≡ f.size) →
     pin_each core_pins pin_of_file fs ≡ map pin_of (pin_each machine_pins (pinned_file w) fs)
 pins-all w [] h = refl
-pins-all w (f ∷ fs) h = ap (λ (p : Pinned). pin_by core_pins p (pin_each core_pins pin_of_file fs))
+pins-all w (f ∷ fs) h = ap (λ p. pin_by core_pins p (pin_each core_pins pin_of_file fs))
     (pin-file w f (h f (inl refl)))
     ∙ (ap (pin_by core_pins (pin_of (pinned_file w f))) (pins-all w fs (λ g i. h g (inr i)))
     ∙ sym (map-pin (pinned_file w f) (pin_each machine_pins (pinned_file w) fs)))
@@ -35,7 +34,7 @@ pins-all w (f ∷ fs) h = ap (λ (p : Pinned). pin_by core_pins p (pin_each core
 pins-one : (w : State) (o : Option File) → ((f : File) → o ≡ Some f → length (w.bytes f.id) ≡ f.size) →
     pin_found pin_of_file o ≡ map pin_of (pin_found (pinned_file w) o)
 pins-one w None h = refl
-pins-one w (Some f) h = ap (λ (p : Pinned). p ∷ []) (pin-file w f (h f refl))
+pins-one w (Some f) h = ap (λ p. p ∷ []) (pin-file w f (h f refl))
 
 pins-aim : (t : Kept) (w : State) (aim : Aim) → IsLikeFoldOf w.records t → AreHeld w.bytes w.records →
     pins_by core_pins pin_of_file (find_file t.files) t.files aim
@@ -80,7 +79,7 @@ subject-kind : (w : State) (k : Kind) → subject_at_begin w k ≡ aimed_subject
 subject-kind w RepairJob = refl
 subject-kind w k = refl
 
-module _ (t : Kept) (s : Setup) (w : State) (moment : ℕ) (v : Wish) (k : Kind) (job : Job)
+module _ {t : Kept} {s : Setup} (w : State) (moment : ℕ) {v : Wish} (k : Kind) {job : Job}
     (made : IsMade t s w.next_job v job) (most : s.n ≤ 16)
     (fold : IsLikeFoldOf w.records t) (setup : s ≡ setup_in w) (held : AreHeld w.bytes w.records)
     (kind : IsAimOf job.told v k) (begins : MayBegin job.told v) where
@@ -104,8 +103,8 @@ module _ (t : Kept) (s : Setup) (w : State) (moment : ℕ) (v : Wish) (k : Kind)
 
   made-flags : (i : ℕ) → flag_at job.flagged i ≡ due_flags (setup_in w).tolerance (due_of w.records) i
   made-flags i = made.flags i
-      ∙ (ap (λ (d : Option Due). due_flags s.tolerance d i) fold.due
-      ∙ ap (λ (x : Setup). due_flags x.tolerance (due_of w.records) i) setup)
+      ∙ (ap (λ d. due_flags s.tolerance d i) fold.due
+      ∙ ap (λ x. due_flags x.tolerance (due_of w.records) i) setup)
 
   made-subject : job.subject ≡ subject_at_begin w k
   made-subject = made.subject ∙ (subject-wish t v
@@ -120,14 +119,14 @@ module _ (t : Kept) (s : Setup) (w : State) (moment : ℕ) (v : Wish) (k : Kind)
       by (Some n) e = e
 
   made-profile : job.profile ≡ chosen (setup_in w) (profile_named v)
-  made-profile = made.profile ∙ ap (λ (x : Setup). chosen x (profile_named v)) setup
+  made-profile = made.profile ∙ ap (λ x. chosen x (profile_named v)) setup
 
   made-older : listed_older job.older ≡ []
   made-older = ap listed_older made.older
 
   made-sums : sums_kept job ≡ sums_at_start s
-  made-sums = ap (λ (c : Counts). sums_of (counted c) job.undecided) made.counts
-      ∙ (ap (λ (xs : List ℕ). sums_of xs job.undecided) (take-zeros s.n 16 most)
+  made-sums = ap (λ c. sums_of (counted c) job.undecided) made.counts
+      ∙ (ap (λ xs. sums_of xs job.undecided) (take-zeros s.n 16 most)
       ∙ ap (sums_of (replicate s.n 0)) made.undecided)
 
   made-plan : plan_in (plan_kept job) ≡ shown job.told (seen_plan (beginning w moment k (profile_named v)))
@@ -149,9 +148,8 @@ module _ (t : Kept) (s : Setup) (w : State) (moment : ℕ) (v : Wish) (k : Kind)
   made-told : HasTold s job.told (beginning w moment k (profile_named v))
   made-told = by job.told kind begins
     where
-      put : (n size : ℕ) (x : Kind) → n ≡ 0 → IsLongest (longest (aim_of x)) →
-          IsPutFrom (n * size) (aim_of x)
-      put n size (PutJob name bytes) z l = subst (λ (m : ℕ). m * size ≤ length bytes) (sym z) (omega arith)
+      put : (n size : ℕ) (x : Kind) → n ≡ 0 → IsLongest (longest (aim_of x)) → IsPutFrom (n * size) (aim_of x)
+      put n size (PutJob name bytes) z l = subst (λ m. m * size ≤ length bytes) (sym z) (omega arith)
       put n size kind z l = absurd l
 
       by : (o : Option ℕ) → IsAimOf o v k → MayBegin o v →

@@ -1,7 +1,7 @@
 -- A job of a core stands for a job of the machine after an action: most of all, the sums of an audit.
 use Rattle.vault_core.proofs.Words.{◌≡◌, ℕ, ◌+◌, ◌<◌, ◌≤◌, Bool, true, false, List, Some, None, inl, inr, refl, ap, sym, subst, ◌∙◌, arith, ◌⊎◌, slice_get, IsTrue, if◌then◌else◌, AllZip, cases_lt, false≢true, not-true, and_parts, le-ltb, ltb-false, Sums, Setup, next_audit, Kind, AuditJob, Given, Action, WriteBody, SyncGate, Ask, End, actions_of, State, setup_in, is_first_append, subject_drawn, taken_out, HasSums, next_action, next_stands, get-drop, audit-list, audit_rest, decided, audit-same, onward, actions-onward, Kept, CoreJob, rest_in, wanted_at, asks_next, begins_append, is_last_ask, seen_plan, is_audit_kind, has_asked, IsJobOf, goes_plainly, stepped_job, judged, number_drawn, drawn, gated}
 use Rattle.std.proofs.Common.{drop}
-use Rattle.std.specs.Prelude.{Option, ◌&&◌, not}
+use Rattle.std.specs.Prelude.{◌&&◌, not}
 use Rattle.machine_defs.specs.Jobs.{Job}
 use Rattle.state_laws.proofs.Done.{gate-within}
 use Rattle.vault_core.proofs.Alike.{IsLikeFoldOf}
@@ -35,16 +35,15 @@ asked_parts s m h =
 -- an audit behind its first append, with no ask next, has asked all
 pub asked_whole : (s : Setup) (m : Job) → m.kind ≡ AuditJob → 4 ≤ m.place →
     asks_next (slice_get (actions_of s m) m.place) ≡ false → has_asked s m ≡ true
-asked_whole s m a l h =
-    ap (λ (k : Kind). is_audit_kind k && (not (is_first_append m)
-    && not (asks_next (slice_get (actions_of s m) m.place)))) a
-    ∙ (ap (λ (b : Bool). not b && not (asks_next (slice_get (actions_of s m) m.place))) (le-ltb m.place 4 l)
+asked_whole s m a l h = ap (λ k. is_audit_kind k && (not (is_first_append m) && not
+    (asks_next (slice_get (actions_of s m) m.place)))) a
+    ∙ (ap (λ b. not b && not (asks_next (slice_get (actions_of s m) m.place))) (le-ltb m.place 4 l)
     ∙ ap not h)
 
 no_gate : (a : Action) → goes_plainly (Some a) ≡ true → a ≡ SyncGate → ⊥
-no_gate a h e = false≢true (ap (λ (x : Action). goes_plainly (Some x)) (sym e) ∙ h)
+no_gate a h e = false≢true (ap (λ x. goes_plainly (Some x)) (sym e) ∙ h)
 
-module _ (w : State) (c : CoreJob) (m : Job) (a : Action) (is : IsJobOf (setup_in w) c m)
+module _ (w : State) {c : CoreJob} {m : Job} {a : Action} (is : IsJobOf (setup_in w) c m)
     (next : next_action w m ≡ Some a) (on : a ≡ End → ⊥)
     (free : wanted_at (setup_in w) c.place c.told ≡ None) where
   listed : slice_get (actions_of (setup_in w) m) m.place ≡ Some a
@@ -60,7 +59,7 @@ module _ (w : State) (c : CoreJob) (m : Job) (a : Action) (is : IsJobOf (setup_i
     plan = is.plan;
     told = told-same (setup_in w) c.told m (onward m m.subject given) refl refl is.told;
     within = told_on (setup_in w) c (stepped_job c) refl refl refl refl free is.within;
-    place = ap (λ (p : ℕ). p + 1) is.place;
+    place = ap (λ p. p + 1) is.place;
     unjudged = λ k l. is.unjudged k (omega (arith, l));
     judged = sums;
   }
@@ -81,7 +80,7 @@ module _ (w : State) (c : CoreJob) (m : Job) (a : Action) (is : IsJobOf (setup_i
 
       following : slice_get (actions_of (setup_in w) (onward m m.subject given)) (m.place + 1)
           ≡ slice_get (actions_of (setup_in w) m) (m.place + 1)
-      following = ap (λ (xs : List Action). slice_get xs (m.place + 1)) (actions-onward (setup_in w) m given)
+      following = ap (λ xs. slice_get xs (m.place + 1)) (actions-onward (setup_in w) m given)
 
       by : (b : Bool) → asks_next (Some a) ≡ b → HasSums (setup_in w) (onward m m.subject given) c.sums
       by false e = elim gave [
@@ -92,20 +91,16 @@ module _ (w : State) (c : CoreJob) (m : Job) (a : Action) (is : IsJobOf (setup_i
       by true e = absurd (not_ask a e listed)
         where
           closed : c.told ≡ None
-          closed = audit-closed (setup_in w) c m is parts.audit
+          closed = audit-closed is parts.audit
 
           not_ask : (x : Action) → asks_next (Some x) ≡ true →
               slice_get (actions_of (setup_in w) m) m.place ≡ Some x → ⊥
           not_ask (Ask j o t) f stands = elim (ask-then (setup_in w) m j o t parts.audit stands) [
             | inl asks ↦ false≢true (sym parts.head ∙ (ap asks_next following ∙ asks))
-            | inr starts ↦ false≢true
-                (sym last
-                ∙ (ap (λ (y : Option Action). asks_next y && begins_append
-                (slice_get (rest_in (setup_in w) c) 1))
-                (ap (λ (xs : List Action). slice_get xs 0) (left-here w c m a is next on closed))
-                ∙ (ap (λ (b : Bool). b && begins_append (slice_get (rest_in (setup_in w) c) 1)) e
-                ∙ (ap begins_append (second_of (rest_in (setup_in w) c)
-                ∙ (ap (λ (xs : List Action). slice_get (drop 1 xs) 0) (left-here w c m a is next on closed)
+            | inr starts ↦ false≢true (sym last ∙ (ap (λ y. asks_next y && begins_append (slice_get (rest_in
+                (setup_in w) c) 1)) (ap (λ xs. slice_get xs 0) (left-here w is next on closed)) ∙ (ap (λ b. b
+                && begins_append (slice_get (rest_in (setup_in w) c) 1)) e ∙ (ap begins_append (second_of
+                (rest_in (setup_in w) c) ∙ (ap (λ xs. slice_get (drop 1 xs) 0) (left-here w is next on closed)
                 ∙ get-drop (actions_of (setup_in w) m) (m.place + 1))) ∙ starts))))
           ]
           not_ask x f stands = false≢true f
@@ -119,8 +114,8 @@ module _ (w : State) (c : CoreJob) (m : Job) (a : Action) (is : IsJobOf (setup_i
     plan = is.plan;
     told = told-same (setup_in w) c.told m (onward m m.subject given) refl refl is.told;
     within = told_on (setup_in w) c (judged c sums) refl refl refl refl free is.within;
-    place = ap (λ (p : ℕ). p + 1) is.place;
-    unjudged = λ k l. absurd (let p = early k in let f = l in omega (arith, p, f));
+    place = ap (λ p. p + 1) is.place;
+    unjudged = λ k l. absurd (omega (arith, early k, l));
     judged = λ p. h;
   }
     where
@@ -150,8 +145,7 @@ on-drawn w t c m f is free next = record {
   where
     sums : IsTrue (has_asked (setup_in w) (onward m (subject_drawn w m m.kind) m.given)) →
         HasSums (setup_in w) (onward m (subject_drawn w m m.kind) m.given) c.sums
-    sums h =
-        (let p = asked_parts (setup_in w) (onward m (subject_drawn w m m.kind) m.given) h in
+    sums h = (let p = asked_parts (setup_in w) (onward m (subject_drawn w m m.kind) m.given) h in
         let stands = next_stands w m WriteBody next (λ e. cc) in
         let past : 4 ≤ m.place = past-first (setup_in w) m WriteBody p.audit stands (λ e. cc) p.past in
         let subject : subject_drawn w m m.kind ≡ m.subject = ap (subject_drawn w m) p.audit
@@ -163,9 +157,8 @@ on-drawn w t c m f is free next = record {
 -- the append of the job is done
 pub on-gated : (w : State) (t : Kept) (cs : List CoreJob) (c : CoreJob) (m : Job) → IsLikeFoldOf w.records t →
     AllZip (IsJobOf (setup_in w)) cs w.jobs → IsJobOf (setup_in w) c m →
-    wanted_at (setup_in w) c.place c.told ≡ None →
-    next_action w m ≡ Some SyncGate → 0 < (setup_in w).n → IsJobOf (setup_in w) (gated (setup_in w) t
-    cs c) (decided m (taken_out w m m.kind))
+    wanted_at (setup_in w) c.place c.told ≡ None → next_action w m ≡ Some SyncGate → 0 < (setup_in w).n →
+    IsJobOf (setup_in w) (gated (setup_in w) t cs c) (decided m (taken_out w m m.kind))
 on-gated w t cs c m f all is free next some = record {
   number = is.number;
   plan = (λ i. record (is.plan i) { older = taken_same w t cs c m f all is i })

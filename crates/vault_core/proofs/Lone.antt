@@ -5,23 +5,20 @@ use Rattle.std.proofs.Common.{◌||◌, length-append}
 -- another job for the same end in place of one
 pub any_set : {X : Type 0} (p : X → Bool) (xs : List X) (i : ℕ) (x y : X) → slice_get xs i ≡ Some x →
     p y ≡ p x → list_any p (slice_set xs i y) ≡ list_any p xs
-any_set p [] zero x y g e = refl
-any_set p [] (suc i) x y g e = refl
-any_set p (z ∷ xs) zero x y g e =
-    (let f : Some z ≡ Some x = g in let s : z ≡ x = cc in
-    ap (λ (b : Bool). b || list_any p xs) (e ∙ ap p (sym s)))
-any_set p (z ∷ xs) (suc i) x y g e = ap (λ (b : Bool). p z || b) (any_set p xs i x y g e)
+any_set p (z ∷ xs) zero x y g e = (let f = g in ap (λ b. b || list_any p xs) (e ∙ ap p (sym cc)))
+any_set p (z ∷ xs) (suc i) x y g e = ap (λ b. p z || b) (any_set p xs i x y g e)
+any_set p [] _ x y g e = refl
 
-or_right : (a b : Bool) → b ≡ true → (a || b) ≡ true
-or_right true b h = refl
-or_right false b h = h
+or_right : (a : Bool) {b : Bool} → b ≡ true → (a || b) ≡ true
+or_right true h = refl
+or_right false h = h
 
 -- a list with one less has no more
 pub any_remove : {X : Type 0} (p : X → Bool) (xs : List X) (i : ℕ) → list_any p (remove xs i) ≡ true →
     list_any p xs ≡ true
 any_remove p [] zero h = h
 any_remove p [] (suc i) h = h
-any_remove p (z ∷ xs) zero h = or_right (p z) (list_any p xs) h
+any_remove p (z ∷ xs) zero h = or_right (p z) h
 any_remove p (z ∷ xs) (suc i) h = elim (cases_Bool (p z)) [
   | inl t ↦ ap (λ (b : Bool). b || list_any p xs) t
   | inr f ↦ ap (λ (b : Bool). b || list_any p xs) f
@@ -42,27 +39,24 @@ lone_less js i h = λ e. (let a = h (any_remove is_upgrading js i e) in let b = 
 pub lone_set : (js : List CoreJob) (i : ℕ) (x y : CoreJob) → slice_get js i ≡ Some x →
     is_upgrading y ≡ is_upgrading x → HasLoneUpgrade js → HasLoneUpgrade (slice_set js i y)
 lone_set js i x y g e h = λ u.
-    (let a = h (sym (any_set is_upgrading js i x y g e) ∙ u) in
-    let b = length-set js i y in omega (arith, a, b))
+    (omega (arith, h (sym (any_set is_upgrading js i x y g e) ∙ u), length-set js i y))
 
 -- one of a list is among it
-pub any_here : {X : Type 0} (p : X → Bool) (xs : List X) (i : ℕ) (x : X) →
-    slice_get xs i ≡ Some x → p x ≡ true →
-    list_any p xs ≡ true
+pub any_here : {X : Type 0} (p : X → Bool) (xs : List X) (i : ℕ) (x : X) → slice_get xs i ≡ Some x →
+    p x ≡ true → list_any p xs ≡ true
 any_here p [] i x g e = (let f : None ≡ Some x = g in cc)
 any_here p (z ∷ xs) zero x g e =
-    (let f : Some z ≡ Some x = g in let s : z ≡ x = cc in ap (λ (b : Bool). b || list_any p xs) (ap p s ∙ e))
-any_here p (z ∷ xs) (suc i) x g e = or_right (p z) (list_any p xs) (any_here p xs i x g e)
+    (let f : Some z ≡ Some x = g in let s : z ≡ x = cc in ap (λ b. b || list_any p xs) (ap p s ∙ e))
+any_here p (z ∷ xs) (suc i) x g e = or_right (p z) (any_here p xs i x g e)
 
 -- the sum over a lone job in whose place stands one that counts nothing
 pub lone_sum : {X : Type 0} (f : X → ℕ) (xs : List X) (i : ℕ) (x y : X) → slice_get xs i ≡ Some x →
     length xs ≤ 1 → f y ≡ 0 → sum_by f (slice_set xs i y) ≡ 0
-lone_sum f [] zero x y g l z = refl
-lone_sum f [] (suc i) x y g l z = refl
 lone_sum f (k ∷ []) zero x y g l z = (let a = sum_by-cons f y [] in let b : sum_by f [] ≡ 0 = refl in
     omega (arith, a, b, z))
 lone_sum f (k ∷ []) (suc i) x y g l z = (let e : None ≡ Some x = g in cc)
 lone_sum f (k ∷ m ∷ xs) i x y g l z = absurd (omega (arith, l))
+lone_sum f [] _ x y g l z = refl
 
 any_push : {X : Type 0} (p : X → Bool) (xs : List X) (y : X) → list_any p xs ≡ false →
     list_any p (xs ++ y ∷ []) ≡ true → p y ≡ true
@@ -72,9 +66,9 @@ any_push p [] y n h = by (p y) h
     by true e = refl
     by false e = e
 any_push p (x ∷ xs) y n h = elim (cases_Bool (p x)) [
-  | inl t ↦ (let f : true ≡ false = sym (ap (λ (b : Bool). b || list_any p xs) t) ∙ n in cc)
-  | inr f ↦ any_push p xs y (sym (ap (λ (b : Bool). b || list_any p xs) f) ∙ n)
-      (sym (ap (λ (b : Bool). b || list_any p (xs ++ y ∷ [])) f) ∙ h)
+  | inl t ↦ (cc (sym (ap (λ (b : Bool). b || list_any p xs) t) ∙ n))
+  | inr f ↦ any_push p xs y (sym (ap (λ b. b || list_any p xs) f) ∙ n)
+      (sym (ap (λ b. b || list_any p (xs ++ y ∷ [])) f) ∙ h)
 ]
 
 -- only an upgrade upgrades, and it begins where no job runs
@@ -87,9 +81,8 @@ none_before aim n aims u w = absurd (false≢true u)
 pub lone_more : (js : List CoreJob) (y : CoreJob) → list_any is_upgrading js ≡ false →
     are_jobs_in_the_way 8 (map (λ (j : CoreJob). j.plan.aim) js) y.plan.aim ≡ false →
     HasLoneUpgrade (js ++ y ∷ [])
-lone_more js y n w = λ e.
-    (let a = none_before y.plan.aim 8 (map (λ (j : CoreJob). j.plan.aim) js)
+lone_more js y n w = λ e. (let a = none_before y.plan.aim 8 (map (λ j. j.plan.aim) js)
     (any_push is_upgrading js y n e) w in
-    let b = length-map js (λ (j : CoreJob). j.plan.aim) in
+    let b = length-map js (λ j. j.plan.aim) in
     let c = length-append js (y ∷ []) in
     let o : length (y ∷ []) ≡ 1 = refl in omega (arith, a, b, c, o))

@@ -1,5 +1,5 @@
 -- The asks of an audit, and the sums of what they gave.
-use Rattle.vault_core.proofs.Words.{◌≡◌, ℕ, zero, suc, ◌+◌, ◌<◌, ◌≤◌, true, false, List, [], ◌∷◌, ◌++◌, Some, length, map, inl, inr, refl, ap, sym, subst, ◌∙◌, arith, ◌⊎◌, slice_get, flat_map, range_with_len, false≢true, Each, each_get, each_append, upto, Sums, Judges, Setup, profiled, object_of, AuditJob, Given, Action, WriteBody, SyncBody, WriteGate, SyncGate, Store, Fetch, Ask, Work, Remove, End, append_actions, on_each_provider, rounds_of, ask_actions, actions_of, JudgesRounds, JudgesFiles, HasSums, each-ask, audit-list, audit_rest, asks_next, begins_append}
+use Rattle.vault_core.proofs.Words.{◌≡◌, ℕ, zero, suc, ◌+◌, ◌<◌, ◌≤◌, true, false, List, [], ◌∷◌, ◌++◌, Some, length, map, inl, inr, refl, ap, sym, subst, ◌∙◌, arith, ◌⊎◌, slice_get, flat_map, false≢true, Each, each_get, each_append, upto, Sums, Judges, Setup, profiled, object_of, AuditJob, Action, WriteBody, SyncBody, WriteGate, SyncGate, Store, Fetch, Ask, Work, Remove, End, append_actions, on_each_provider, rounds_of, ask_actions, actions_of, JudgesRounds, JudgesFiles, HasSums, each-ask, audit-list, audit_rest, asks_next, begins_append}
 use Rattle.std.proofs.Common.{replicate}
 use Rattle.column_defs.specs.Challenges.{challenge_of}
 use Rattle.machine_defs.specs.Jobs.{Pinned, Job}
@@ -13,12 +13,9 @@ module _ (s : Setup) (i j : Job) (given : i.given ≡ j.given) (subject : i.subj
   rounds_same f [] old new h = h
   rounds_same f (r ∷ rs) old new h = (
     h.0,
-    subst (λ (n : ℕ). Judges (object_of (profiled s f.profile) f.id)
+    subst (λ n. Judges (object_of (profiled s f.profile) f.id)
         (challenge_of (object_of (profiled s f.profile) f.id) (length f.bytes) s.picks n r)
-        (answers_given j.given s.n f.id r) old h.0) subject
-        (subst (λ (g : List Given). Judges (object_of (profiled s f.profile) f.id)
-        (challenge_of (object_of (profiled s f.profile) f.id) (length f.bytes) s.picks i.subject r)
-        (answers_given g s.n f.id r) old h.0) given h.1),
+        (answers_given j.given s.n f.id r) old h.0) subject (rw given at h.1),
     rounds_same f rs h.0 new h.2,
   )
 
@@ -33,9 +30,7 @@ module _ (s : Setup) (i j : Job) (given : i.given ≡ j.given) (subject : i.subj
   -- sums of a job are those of another with the same answers, subject and files
   pub sums-same : (sums : Sums) → i.pinned ≡ j.pinned → HasSums s i sums → HasSums s j sums
   sums-same sums pinned h =
-      subst (λ (fs : List Pinned). JudgesFiles s j fs
-      (record { counts = replicate s.n 0; undecided = 0 }) sums) pinned
-      (files_same i.pinned (record { counts = replicate s.n 0; undecided = 0 }) sums h)
+      rw pinned at (files_same i.pinned (record { counts = replicate s.n 0; undecided = 0 }) sums h)
 
 -- an audit with nothing to ask has no sums
 module _ (s : Setup) (m : Job) (some : 0 < s.n) where
@@ -45,7 +40,7 @@ module _ (s : Setup) (m : Job) (some : 0 < s.n) where
 
   providers : (n : ℕ) → 0 < n → (f : ℕ → Action) (xs : List Action) → map f (upto n) ++ xs ≡ [] → ⊥
   providers zero l f xs e = omega arith
-  providers (suc n) l f xs e = let g : f 0 ∷ (map f (range_with_len (0 + 1) n) ++ xs) ≡ [] = e in cc
+  providers (suc n) l f xs e = cc e
 
   no_rounds : (f : Pinned) (rounds : List ℕ) (sums : Sums) →
       flat_map (λ round. on_each_provider s (λ j. Ask j f.id round)) rounds ≡ [] →
@@ -55,7 +50,7 @@ module _ (s : Setup) (m : Job) (some : 0 < s.n) where
 
   none_both : (xs ys : List Action) → xs ++ ys ≡ [] → (xs ≡ []) × (ys ≡ [])
   none_both [] ys e = (refl, e)
-  none_both (x ∷ xs) ys e = let f : x ∷ (xs ++ ys) ≡ [] = e in cc
+  none_both (x ∷ xs) ys e = cc e
 
   no_files : (fs : List Pinned) (sums : Sums) →
       flat_map (λ (f : Pinned). flat_map (λ round. on_each_provider s (λ j. Ask j f.id round))
@@ -64,7 +59,7 @@ module _ (s : Setup) (m : Job) (some : 0 < s.n) where
   no_files (f ∷ fs) sums e =
       let b = none_both (flat_map (λ round. on_each_provider s (λ j. Ask j f.id round))
       (rounds_of (profiled s f.profile) (length f.bytes)))
-      (flat_map (λ (f : Pinned). flat_map (λ round. on_each_provider s (λ j. Ask j f.id round))
+      (flat_map (λ f. flat_map (λ round. on_each_provider s (λ j. Ask j f.id round))
       (rounds_of (profiled s f.profile) (length f.bytes))) fs) e in
       (sums, no_rounds f (rounds_of (profiled s f.profile) (length f.bytes)) sums b.0, no_files fs sums b.1)
 
@@ -92,7 +87,7 @@ ask_then : (xs ys : List Action) (p j o t : ℕ) → Each IsAnAsk xs → Each No
     (asks_next (slice_get (xs ++ WriteBody ∷ ys) (suc p)) ≡ true) ⊎
     (begins_append (slice_get (xs ++ WriteBody ∷ ys) (suc p)) ≡ true)
 unfolding IsAnAsk NoAsk
-ask_then [] ys zero j o t h n e = let f : Some WriteBody ≡ Some (Ask j o t) = e in cc
+ask_then [] ys zero j o t h n e = let f = e in cc
 ask_then [] ys (suc p) j o t h n e = absurd (false≢true (sym (each_get NoAsk ys p (Ask j o t) n e)))
 ask_then (x ∷ []) ys zero j o t h n e = inr refl
 ask_then (x ∷ (y ∷ xs)) ys zero j o t h n e = inl h.1.0
@@ -104,13 +99,12 @@ pub ask-then : (s : Setup) (m : Job) (j o t : ℕ) → m.kind ≡ AuditJob →
     (asks_next (slice_get (actions_of s m) (m.place + 1)) ≡ true) ⊎
     (begins_append (slice_get (actions_of s m) (m.place + 1)) ≡ true)
 unfolding NoAsk
-ask-then s m j o t kind e =
-    subst (λ (xs : List Action). (asks_next (slice_get xs (m.place + 1)) ≡ true) ⊎
+ask-then s m j o t kind e = subst (λ xs. (asks_next (slice_get xs (m.place + 1)) ≡ true) ⊎
     (begins_append (slice_get xs (m.place + 1)) ≡ true)) (sym (audit-list s m kind))
-    (subst (λ (k : ℕ). (asks_next (slice_get (append_actions ++ audit_rest s m) k) ≡ true) ⊎
+    (subst (λ k. (asks_next (slice_get (append_actions ++ audit_rest s m) k) ≡ true) ⊎
     (begins_append (slice_get (append_actions ++ audit_rest s m) k) ≡ true))
     (let k : suc m.place ≡ m.place + 1 = omega arith in k)
-    (by m.place (ap (λ (xs : List Action). slice_get xs m.place) (sym (audit-list s m kind)) ∙ e)))
+    (by m.place (ap (λ xs. slice_get xs m.place) (sym (audit-list s m kind)) ∙ e)))
   where
     by : (p : ℕ) → slice_get (append_actions ++ audit_rest s m) p ≡ Some (Ask j o t) →
         (asks_next (slice_get (append_actions ++ audit_rest s m) (suc p)) ≡ true) ⊎
@@ -119,9 +113,8 @@ ask-then s m j o t kind e =
     by (suc zero) f = (let g : Some SyncBody ≡ Some (Ask j o t) = f in cc)
     by (suc (suc zero)) f = (let g : Some WriteGate ≡ Some (Ask j o t) = f in cc)
     by (suc (suc (suc zero))) f = (let g : Some SyncGate ≡ Some (Ask j o t) = f in cc)
-    by (suc (suc (suc (suc p)))) f = ask_then (ask_actions s m)
-        (SyncBody ∷ WriteGate ∷ SyncGate ∷ End ∷ []) p j o t (asks_ask s m)
-        (refl, (refl, (refl, (refl, tt)))) f
+    by (suc (suc (suc (suc p)))) f = ask_then (ask_actions s m) (SyncBody ∷ WriteGate ∷ SyncGate ∷ End ∷ []) p
+        j o t (asks_ask s m) (refl, (refl, (refl, (refl, tt)))) f
 
 nothing : (xs ys : List Action) → Each IsAnAsk xs → asks_next (slice_get (xs ++ ys) 0) ≡ false → xs ≡ []
 unfolding IsAnAsk
@@ -132,7 +125,7 @@ nothing (x ∷ xs) ys h e = absurd (false≢true (sym e ∙ h.0))
 pub asks-none : (s : Setup) (m : Job) → m.kind ≡ AuditJob → asks_next (slice_get (actions_of s m) 4) ≡ false →
     ask_actions s m ≡ []
 asks-none s m kind e = nothing (ask_actions s m) (append_actions ++ End ∷ []) (asks_ask s m)
-    (ap (λ (xs : List Action). asks_next (slice_get xs 4)) (sym (audit-list s m kind)) ∙ e)
+    (ap (λ xs. asks_next (slice_get xs 4)) (sym (audit-list s m kind)) ∙ e)
 
 -- an audit neither fetches nor works
 abbrev pub IsAudits : Action → Type 0
@@ -143,37 +136,32 @@ IsAudits (Remove j o) = ⊥
 IsAudits a = Unit {0}
 
 -- each action of an audit's list is one that audits have
-pub audit-action : (s : Setup) (m : Job) (a : Action) → m.kind ≡ AuditJob →
+pub audit-action : (s : Setup) (m : Job) {a : Action} → m.kind ≡ AuditJob →
     slice_get (actions_of s m) m.place ≡ Some a → IsAudits a
-audit-action s m a kind e = each_get IsAudits (append_actions ++ audit_rest s m) m.place a
+audit-action s m {a} kind e = each_get IsAudits (append_actions ++ audit_rest s m) m.place a
     (each_append IsAudits append_actions (audit_rest s m) (tt, (tt, (tt, (tt, tt))))
     (each_append IsAudits (ask_actions s m) (append_actions ++ End ∷ []) (each-ask IsAudits (λ j o t. tt) s m)
-    (tt, (tt, (tt, (tt, (tt, tt)))))))
-    (ap (λ (xs : List Action). slice_get xs m.place) (sym (audit-list s m kind)) ∙ e)
+    (tt, (tt, (tt, (tt, (tt, tt))))))) (ap (λ xs. slice_get xs m.place) (sym (audit-list s m kind)) ∙ e)
 
 -- an audit's list begins with an append: what stands at a place of it is a move, or the audit is past it
 pub past-first : (s : Setup) (m : Job) (a : Action) → m.kind ≡ AuditJob →
     slice_get (actions_of s m) m.place ≡ Some a → (a ≡ SyncGate → ⊥) → 4 ≤ m.place + 1 → 4 ≤ m.place
-past-first s m a kind e n l =
-    by m.place (ap (λ (xs : List Action). slice_get xs m.place) (sym (audit-list s m kind)) ∙ e) l
+past-first s m a kind e n l = by m.place (ap (λ xs. slice_get xs m.place) (sym (audit-list s m kind)) ∙ e) l
   where
     by : (p : ℕ) → slice_get (append_actions ++ audit_rest s m) p ≡ Some a → 4 ≤ p + 1 → 4 ≤ p
-    by zero f h = absurd (omega (arith, h))
-    by (suc zero) f h = absurd (omega (arith, h))
-    by (suc (suc zero)) f h = absurd (omega (arith, h))
-    by (suc (suc (suc zero))) f h = absurd (n (let g : Some SyncGate ≡ Some a = f in let r :
-        SyncGate ≡ a = cc in sym r))
+    by (suc (suc (suc zero))) f h = absurd (n (let g = f in sym cc))
     by (suc (suc (suc (suc p)))) f h = omega arith
+    by _ f h = absurd (omega (arith, h))
 
 -- no ask stands in an audit's first append
 pub no-ask-first : (s : Setup) (m : Job) (j o t : ℕ) → m.kind ≡ AuditJob → m.place < 4 →
     slice_get (actions_of s m) m.place ≡ Some (Ask j o t) → ⊥
 no-ask-first s m j o t kind l e =
-    by m.place l (ap (λ (xs : List Action). slice_get xs m.place) (sym (audit-list s m kind)) ∙ e)
+    by m.place l (ap (λ xs. slice_get xs m.place) (sym (audit-list s m kind)) ∙ e)
   where
     by : (p : ℕ) → p < 4 → slice_get (append_actions ++ audit_rest s m) p ≡ Some (Ask j o t) → ⊥
-    by zero h f = (let g : Some WriteBody ≡ Some (Ask j o t) = f in cc)
-    by (suc zero) h f = (let g : Some SyncBody ≡ Some (Ask j o t) = f in cc)
-    by (suc (suc zero)) h f = (let g : Some WriteGate ≡ Some (Ask j o t) = f in cc)
-    by (suc (suc (suc zero))) h f = (let g : Some SyncGate ≡ Some (Ask j o t) = f in cc)
+    by zero h f = cc f
+    by (suc zero) h f = cc f
+    by (suc (suc zero)) h f = cc f
+    by (suc (suc (suc zero))) h f = cc f
     by (suc (suc (suc (suc p)))) h f = omega (arith, h)

@@ -1,5 +1,5 @@
 -- Why no job begins: what a core sees is what the machine sees.
-use Rattle.vault_core.proofs.Words.{◌≡◌, ℕ, suc, ◌+◌, ◌<◌, ◌≤◌, ◌^◌, Bool, true, false, List, [], ◌∷◌, Some, None, min, length, map, inl, inr, refl, ap, sym, subst, ◌∙◌, arith, ◌==◌, nat_lt, nat_le, nat_eq, is_some, sum, sum_by, if◌then◌else◌, All, list_any, AllZip, All-head, All-tail, pointwise, option_map, cases_Bool, lt-ltb, ltb-true, lt-leb, nat_tests, length-map, sum_by-cons, Setup, largest_file, largest_journal, most_files, File, is_same_name, find_file, Kind, Aim, ToPut, ToGet, ToDrop, ToAudit, ToRepair, ToUpgrade, aim_of, MachineJob, Refusal, State, Alone, setup_in, appends_left, append_sizes, room_left, reserved, puts_name, Sight, sight_of, aims_of, room_used, is_put_or_check, is_check, is_upgrade, is_shut, are_jobs_in_the_way, is_busy, is_name_among, with_name, names_in, with_puts, is_crowded_for, is_full, is_too_full, are_numbers_used_up, causes, Wish, Inside, CoreJob, CoreView, aim_of_wish, profile_named, setup_kept, core_job, view_of, IsJobKept, IsCore, sizes_of, room_behind, reserved_of, longest, IsAimOf, IsShortAim, IsJobOf, CoreIs, aims_in, sight_in, aims_kept, taken_names}
+use Rattle.vault_core.proofs.Words.{◌≡◌, ℕ, suc, ◌+◌, ◌<◌, ◌≤◌, ◌^◌, Bool, true, false, List, [], ◌∷◌, Some, None, min, length, map, inl, inr, refl, ap, sym, subst, ◌∙◌, arith, ◌==◌, nat_lt, nat_le, nat_eq, is_some, sum, sum_by, if◌then◌else◌, All, list_any, AllZip, All-head, All-tail, pointwise, option_map, cases_Bool, lt-ltb, ltb-true, lt-leb, nat_tests, length-map, sum_by-cons, Setup, largest_file, largest_journal, most_files, File, is_same_name, find_file, Kind, Aim, ToPut, ToGet, ToDrop, ToAudit, ToRepair, ToUpgrade, aim_of, MachineJob, Refusal, State, setup_in, appends_left, append_sizes, room_left, reserved, puts_name, Sight, sight_of, aims_of, room_used, is_put_or_check, is_check, is_upgrade, is_shut, are_jobs_in_the_way, is_busy, is_name_among, with_name, names_in, with_puts, is_crowded_for, is_full, is_too_full, are_numbers_used_up, causes, Wish, Inside, CoreJob, CoreView, aim_of_wish, profile_named, setup_kept, core_job, view_of, IsJobKept, IsCore, sizes_of, room_behind, reserved_of, longest, IsAimOf, IsShortAim, IsJobOf, CoreIs, aims_in, sight_in, aims_kept, taken_names}
 use Rattle.std.proofs.Common.{not, ◌&&◌, ◌||◌, Option}
 use Rattle.std.proofs.Math.Bool.{or-false}
 use Rattle.machine_defs.specs.Refusals as refusal
@@ -15,22 +15,24 @@ use Rattle.vault_core.proofs.Alike.{IsLikeFoldOf, table-like}
 
 aims-seen : (js : List Job) → aims_in (map core_job js) ≡ aims_kept js
 aims-seen [] = refl
-aims-seen (j ∷ js) = ap (λ (aims : List Aim). aim_of_wish j.wish ∷ aims) (aims-seen js)
+aims-seen (j ∷ js) = ap (λ aims. aim_of_wish j.wish ∷ aims) (aims-seen js)
 
 room-seen : (i : ℕ) (s : Setup) (w : Wish) (k : ℕ) → room_behind i s.n w k ≡ room_left i s (aim_of_wish w) k
-room-seen i s (wish.Put name size own) k = refl
-room-seen i s w k = refl
+room-seen i s _ k = refl
 
 sum-seen : (v : ℕ) (s : Setup) (js : List Job) → All (IsJobKept s) js →
     sum_by (reserved_of v s) (map core_job js) ≡ sum_by (λ (j : Job). room_behind v s.n j.wish j.appends) js
 sum-seen v s [] h = refl
 sum-seen v s (j ∷ js) h =
-    let a = sum_by-cons (reserved_of v s) (core_job j) (map core_job js) in
-    let b = sum_by-cons (λ (i : Job). room_behind v s.n i.wish i.appends) j js in
-    let i = sum-seen v s js (All-tail (IsJobKept s) j js h) in
-    let k = (All-head (IsJobKept s) j js h).appends in
-    let r = room-seen v s j.wish j.appends ∙ ap (room_left v s (aim_of_wish j.wish)) k in
-    omega (arith, a, b, i, r)
+    let r = room-seen v s j.wish j.appends ∙ ap (room_left v s (aim_of_wish j.wish))
+    (All-head (IsJobKept s) j js h).appends in
+    omega (
+      arith,
+      sum_by-cons (reserved_of v s) (core_job j) (map core_job js),
+      sum_by-cons (λ (i : Job). room_behind v s.n i.wish i.appends) j js,
+      sum-seen v s js (All-tail (IsJobKept s) j js h),
+      r,
+    )
 
 -- ---- names
 
@@ -46,7 +48,7 @@ pub taken-by : (files : List File) (aims : List Aim) (name : List ℕ) →
     is_name_among (taken_names files aims) name
     ≡ (list_any (puts_name name) aims || is_some (find_file files name))
 taken-by files aims name = listed-with_puts _ aims name
-    ∙ ap (λ (b : Bool). list_any (puts_name name) aims || b) (listed-files files name)
+    ∙ ap (λ b. list_any (puts_name name) aims || b) (listed-files files name)
 
 -- a file is found or not, whatever is made of it
 pub found-some : {X : Type 0} (f : X → File) {found : Option File} (o : Option X) → option_map f o ≡ found →
@@ -55,13 +57,12 @@ found-some f None e = ap is_some e
 found-some f (Some x) e = ap is_some e
 
 -- a put adds its name, unless it is taken
-pub more-put : (files : List File) (aims : List Aim) (w : Wish) (name : List ℕ) (size : ℕ) (own : Option ℕ)
-    (b : Bool) → w ≡ wish.Put name size own → b ≡ is_name_among (taken_names files aims) name →
+pub more-put : (files : List File) (aims : List Aim) {w : Wish} (name : List ℕ) (size : ℕ) (own : Option ℕ)
+    {b : Bool} → w ≡ wish.Put name size own → b ≡ is_name_among (taken_names files aims) name →
     length (taken_names files (aim_of_wish w ∷ aims))
     ≡ (if not b then 1 else 0) + length (taken_names files aims)
-more-put files aims w name size own b e h =
-    subst (λ (v : Wish). length (taken_names files (aim_of_wish v ∷ aims))
-    ≡ (if not b then 1 else 0) + length (taken_names files aims)) (sym e) (by b h)
+more-put files aims name size own {b} e h = subst (λ v. length (taken_names files (aim_of_wish v ∷ aims)) ≡
+    (if not b then 1 else 0) + length (taken_names files aims)) (sym e) (by b h)
   where
     by : (x : Bool) → x ≡ is_name_among (taken_names files aims) name →
         length (with_name (taken_names files aims) name)
@@ -108,34 +109,31 @@ abbrev pub has_upgrade : Inside → Bool
 has_upgrade a = list_any is_upgrade (aims_kept a.jobs.items)
 
 -- so it is seen by a test of the jobs
-pub upgrade_seen : (a : Inside) (js : List Job) (b : Bool) → b ≡ list_any
-    (λ (j : Job). is_upgrade (aim_of_wish j.wish)) js →
-    js ≡ a.jobs.items → has_upgrade a ≡ b
-upgrade_seen a js b h e = sym (h ∙ (any-map (λ (j : Job). aim_of_wish j.wish) is_upgrade js
-    ∙ ap (λ (xs : List Job). list_any is_upgrade (aims_kept xs)) e))
+pub upgrade_seen : (a : Inside) {js : List Job} {b : Bool} →
+    b ≡ list_any (λ (j : Job). is_upgrade (aim_of_wish j.wish)) js → js ≡ a.jobs.items → has_upgrade a ≡ b
+upgrade_seen a {js} h e = sym (h ∙ (any-map (λ j. aim_of_wish j.wish) is_upgrade js
+    ∙ ap (λ xs. list_any is_upgrade (aims_kept xs)) e))
 
 -- a core is busy by its own jobs when a contract sees it so
 pub busy : (a : Inside) (v : CoreView) (w : Wish) (b : Bool) → view_of a ≡ v →
     b ≡ (has_upgrade a || (nat_le 8 (length a.jobs.items)
     || are_in_the_way (aims_kept a.jobs.items) (aim_of_wish w))) →
     b ≡ is_busy 8 (sight_in v) (aim_of_wish w)
-busy a v w b e h = subst (λ (c : CoreView). b ≡ is_busy 8 (sight_in c) (aim_of_wish w)) e
-    (h ∙ (ap (λ (t : Bool). has_upgrade a || t)
-    (ap (λ (k : ℕ). nat_le 8 k || are_in_the_way (aims_kept a.jobs.items) (aim_of_wish w))
-    (sym (length-map a.jobs.items (λ (j : Job). aim_of_wish j.wish)))
+busy a v w b e h = subst (λ c. b ≡ is_busy 8 (sight_in c) (aim_of_wish w)) e
+    (h ∙ (ap (λ t. has_upgrade a || t)
+    (ap (λ k. nat_le 8 k || are_in_the_way (aims_kept a.jobs.items) (aim_of_wish w))
+    (sym (length-map a.jobs.items (λ j. aim_of_wish j.wish)))
     ∙ sym (way (aims_kept a.jobs.items) w))
-    ∙ ap (λ (aims : List Aim). list_any is_upgrade aims || are_jobs_in_the_way 8 aims (aim_of_wish w))
+    ∙ ap (λ aims. list_any is_upgrade aims || are_jobs_in_the_way 8 aims (aim_of_wish w))
     (sym (aims-seen a.jobs.items))))
 
 -- the same where no upgrade runs, and fewer than eight jobs
 pub beside : (a : Inside) (v : CoreView) (w : Wish) (b : Bool) → view_of a ≡ v → has_upgrade a ≡ false →
     length a.jobs.items < 8 →
     b ≡ are_in_the_way (aims_kept a.jobs.items) (aim_of_wish w) → b ≡ is_busy 8 (sight_in v) (aim_of_wish w)
-beside a v w b e none l h =
-    busy a v w b e (h ∙ sym
-    (ap (λ (t : Bool). t || (nat_le 8 (length a.jobs.items)
+beside a v w b e none l h = busy a v w b e (h ∙ sym (ap (λ t. t || (nat_le 8 (length a.jobs.items)
     || are_in_the_way (aims_kept a.jobs.items) (aim_of_wish w))) none
-    ∙ ap (λ (t : Bool). t || are_in_the_way (aims_kept a.jobs.items) (aim_of_wish w))
+    ∙ ap (λ t. t || are_in_the_way (aims_kept a.jobs.items) (aim_of_wish w))
     (lt-leb 8 (length a.jobs.items) l)))
 
 -- some jobs are as many as one at least
@@ -155,23 +153,21 @@ pub crowded : (a : Inside) (v : CoreView) (name : List ℕ) (taken : Bool) (coun
     taken ≡ is_name_among (taken_names a.table.files (aims_kept a.jobs.items)) name →
     nat_le 1024 count ≡ nat_le 1024 (length (taken_names a.table.files (aims_kept a.jobs.items))) →
     (nat_le 1024 count && not taken) ≡ is_crowded_for (sight_in v) name
-crowded a v name taken count e h k =
-    subst (λ (c : CoreView). (nat_le 1024 count && not taken) ≡ is_crowded_for (sight_in c) name) e
-    (subst (λ (aims : List Aim). (nat_le 1024 count && not taken)
-    ≡ (nat_le most_files (length (taken_names a.table.files aims)) && not
-    (is_name_among (taken_names a.table.files aims) name)))
-    (sym (aims-seen a.jobs.items)) (rw (h, k) refl))
+crowded a v name taken count e h k = subst (λ c. (nat_le 1024 count && not taken) ≡ is_crowded_for
+    (sight_in c) name) e (subst (λ aims. (nat_le 1024 count && not taken) ≡
+    (nat_le most_files (length (taken_names a.table.files aims)) && not
+    (is_name_among (taken_names a.table.files aims) name))) (sym (aims-seen a.jobs.items)) (rw (h, k) refl))
 
 -- the count of the files and of the names beside them is at its limit when the names taken are
-pub names-along : (a : Inside) (js : List Job) (files beside count : ℕ) →
+pub names-along : (a : Inside) {js : List Job} {files : ℕ} (beside : ℕ) {count : ℕ} →
     count ≡ min (files + beside) 18446744073709551615 → files ≡ length a.table.files →
     length (taken_names a.table.files (aims_kept js)) ≡ beside + length a.table.files → js ≡ a.jobs.items →
     nat_le 1024 count ≡ nat_le 1024 (length (taken_names a.table.files (aims_kept a.jobs.items)))
-names-along a js files beside count e f b j =
-    sat files beside count e
-    ∙ (ap (nat_le 1024) (let k : files + beside ≡ length (taken_names a.table.files (aims_kept js)) =
-    omega (arith, f, b) in k)
-    ∙ ap (λ (xs : List Job). nat_le 1024 (length (taken_names a.table.files (aims_kept xs)))) j)
+names-along a {files} beside {count} e f b j = sat files beside count e ∙ (ap (nat_le 1024) (omega (
+  arith,
+  f,
+  b,
+)) ∙ ap (λ xs. nat_le 1024 (length (taken_names a.table.files (aims_kept xs)))) j)
   where
     sat : (p q k : ℕ) → k ≡ min (p + q) 18446744073709551615 → nat_le 1024 k ≡ nat_le 1024 (p + q)
     sat p q k h = grind (arith, nat_tests, h)
@@ -183,8 +179,7 @@ few_false count taken l = let f : nat_le 1024 count ≡ false = grind (arith, na
 
 -- the sizes of records hang on the number of providers alone
 sizes-by : (i : ℕ) (s : Setup) (w : Wish) → append_sizes i s (aim_of_wish w) ≡ sizes_of i s.n w
-sizes-by i s (wish.Put name size own) = refl
-sizes-by i s w = refl
+sizes-by i s _ = refl
 
 full-cases : (x : Sight) (w : Wish) → ((name : List ℕ) → w ≡ wish.Get name → ⊥) →
     is_full x (aim_of_wish w) ≡ (is_too_full x (aim_of_wish w) || are_numbers_used_up x (aim_of_wish w))
@@ -192,42 +187,42 @@ full-cases x (wish.Get name) h = absurd (h name refl)
 full-cases x w h = refl
 
 -- the room of a job behind that of those that run, and whether its number comes too near the last one
-pub full : (a : Inside) (v : CoreView) (w : Wish) (version : ℕ) (jobs : List Job) (room size : ℕ)
-    (used : Bool) → view_of a ≡ v → ((name : List ℕ) → w ≡ wish.Get name → ⊥) → IsCore a →
+pub full : {a : Inside} {v : CoreView} (w : Wish) {version : ℕ} {jobs : List Job} {room size : ℕ}
+    {used : Bool} → view_of a ≡ v → ((name : List ℕ) → w ≡ wish.Get name → ⊥) → IsCore a →
     version ≡ a.table.version → jobs ≡ a.jobs.items →
     room ≡ sum_by (λ (j : Job). room_behind version a.setup.n j.wish j.appends) jobs →
     size ≡ sum (sizes_of version a.setup.n w) →
     used ≡ (nat_lt largest_journal (a.end + room + size) || are_numbers_used_up (sight_in (view_of a))
     (aim_of_wish w)) → used ≡ is_full (sight_in v) (aim_of_wish w)
-full a v w version jobs room size used e get core of items behind sizes h =
-    subst (λ (c : CoreView). used ≡ is_full (sight_in c) (aim_of_wish w)) e
-    (h ∙ (ap (λ (k : ℕ). nat_lt largest_journal k || are_numbers_used_up (sight_in (view_of a))
+full {a} {v} w {version} {jobs} {room} {size} {used} e get core of items behind sizes h =
+    subst (λ c. used ≡ is_full (sight_in c) (aim_of_wish w)) e
+    (h ∙ (ap (λ k. nat_lt largest_journal k || are_numbers_used_up (sight_in (view_of a))
     (aim_of_wish w)) all ∙ sym (full-cases (sight_in (view_of a)) w get)))
   where
-    r : room ≡ sum_by (λ (j : Job). room_behind a.table.version a.setup.n j.wish j.appends) a.jobs.items
-    r = behind ∙ (λ i. sum_by (λ (j : Job). room_behind (of i) a.setup.n j.wish j.appends) (items i))
+    r : room ≡ sum_by (λ j. room_behind a.table.version a.setup.n j.wish j.appends) a.jobs.items
+    r = behind ∙ (λ i. sum_by (λ j. room_behind (of i) a.setup.n j.wish j.appends) (items i))
 
     z : size ≡ sum (sizes_of a.table.version a.setup.n w)
-    z = sizes ∙ ap (λ (n : ℕ). sum (sizes_of n a.setup.n w)) of
+    z = sizes ∙ ap (λ n. sum (sizes_of n a.setup.n w)) of
 
     all : (a.end + room + size)
         ≡ ((sight_in (view_of a)).used + sum (append_sizes a.table.version (sight_in (view_of a)).setup
         (aim_of_wish w)))
     all = (let k = sum-seen a.table.version (setup_kept a) a.jobs.items core.kept in
-        let m = ap (λ (xs : List ℕ). sum xs) (sizes-by a.table.version (sight_in (view_of a)).setup w) in
+        let m = ap (λ xs. sum xs) (sizes-by a.table.version (sight_in (view_of a)).setup w) in
         omega (arith, k, r, z, m))
 
 -- a journal that would grow beyond its largest size is full, whatever the numbers
-pub over : (k : ℕ) (u : Bool) → largest_journal < k → true ≡ (nat_lt largest_journal k || u)
-over k u l = ap (λ (b : Bool). b || u) (sym (lt-ltb largest_journal k l))
+pub over : {k : ℕ} (u : Bool) → largest_journal < k → true ≡ (nat_lt largest_journal k || u)
+over {k} u l = ap (λ b. b || u) (sym (lt-ltb largest_journal k l))
 
 -- a journal that stays within its largest size is full only where the numbers are used up
-pub under : (k : ℕ) (u b : Bool) → k ≤ largest_journal → b ≡ u → b ≡ (nat_lt largest_journal k || u)
-under k u b l h = h ∙ ap (λ (t : Bool). t || u) (sym not_over)
+pub under : {k : ℕ} {u b : Bool} → k ≤ largest_journal → b ≡ u → b ≡ (nat_lt largest_journal k || u)
+under {k} {u} l h = h ∙ ap (λ t. t || u) (sym not_over)
   where
     not_over : nat_lt largest_journal k ≡ false
     not_over = elim (cases_Bool (nat_lt largest_journal k)) [
-      | inl t ↦ absurd (let x = ltb-true largest_journal k t in omega (arith, x, l))
+      | inl t ↦ absurd (omega (arith, ltb-true largest_journal k t, l))
       | inr f ↦ f
     ]
 
@@ -253,29 +248,30 @@ bare_sight x = record x { aims = map bare x.aims }
 aims-same : (s : Setup) (cs : List CoreJob) (js : List MachineJob) → AllZip (IsJobOf s) cs js →
     map bare (aims_in cs) ≡ map bare (aims_of js)
 aims-same s [] [] is = refl
-aims-same s [] (j ∷ js) is = absurd is
-aims-same s (c ∷ cs) [] is = absurd is
-aims-same s (c ∷ cs) (j ∷ js) is =
-    λ i. aim-alike s c j is.0 bare (λ name a b. refl) i ∷ aims-same s cs js is.1 i
+aims-same s (c ∷ cs) (j ∷ js) is = λ i. aim-alike is.0 bare (λ name a b. refl) i ∷ aims-same s cs js is.1 i
+aims-same s _ _ is = absurd is
 
 room-jobs : (v : ℕ) (s : Setup) (cs : List CoreJob) (js : List MachineJob) → AllZip (IsJobOf s) cs js →
     sum_by (reserved_of v s) cs ≡ sum_by (reserved v s) js
 room-jobs v s [] [] is = refl
-room-jobs v s [] (j ∷ js) is = absurd is
-room-jobs v s (c ∷ cs) [] is = absurd is
 room-jobs v s (c ∷ cs) (j ∷ js) is =
     let a = sum_by-cons (reserved_of v s) c cs in
     let b = sum_by-cons (reserved v s) j js in
-    let e : reserved_of v s c ≡ reserved v s j = ap (room_left v s c.plan.aim) (appends-is s c j is.0)
-    ∙ aim-alike s c j is.0 (λ (aim : Aim). room_left v s aim (appends_left s j)) (λ name a b. refl) in
-    let i = room-jobs v s cs js is.1 in
-    omega (arith, a, b, e, i)
+    omega (
+      arith,
+      a,
+      b,
+      ap (room_left v s c.plan.aim) (appends-is is.0)
+          ∙ aim-alike is.0 (λ (aim : Aim). room_left v s aim (appends_left s j)) (λ name a b. refl),
+      room-jobs v s cs js is.1,
+    )
+room-jobs v s _ _ is = absurd is
 
 -- a core and a state that it stands for look the same to a begin, but for the lengths of puts
 pub sight-same : (c : CoreView) (w : State) → CoreIs c w → bare_sight (sight_in c) ≡ bare_sight (sight_of w)
 sight-same c w is = λ i. record {
   is_barred = is.barred i;
-  is_alone = sym (ap (λ (o : Option Alone). is_some o) is.none_alone) i;
+  is_alone = sym (ap (λ o. is_some o) is.none_alone) i;
   aims = aims-same c.setup c.jobs w.jobs is.jobs i;
   files = like.files i;
   due = like.due i;
@@ -290,24 +286,26 @@ sight-same c w is = λ i. record {
     like = table-like c w is
 
     used : (c.end + sum_by (reserved_of c.table.version c.setup) c.jobs) ≡ room_used w
-    used = (let a = is.end in
-        let b = room-jobs c.table.version c.setup c.jobs w.jobs is.jobs
-        ∙ (ap (λ (t : Setup). sum_by (reserved c.table.version t) w.jobs) is.setup
-        ∙ ap (λ (i : ℕ). sum_by (reserved i (setup_in w)) w.jobs) like.version) in
-        omega (arith, a, b))
+    used = (omega (
+      arith,
+      is.end,
+      room-jobs c.table.version c.setup c.jobs w.jobs is.jobs
+          ∙ (ap (λ (t : Setup). sum_by (reserved c.table.version t) w.jobs) is.setup
+          ∙ ap (λ (i : ℕ). sum_by (reserved i (setup_in w)) w.jobs) like.version),
+    ))
 
 any-bare : (p : Aim → Bool) → ((name : List ℕ) (size : ℕ) → p (ToPut name 0) ≡ p (ToPut name size)) →
     (aims : List Aim) → list_any p (map bare aims) ≡ list_any p aims
 any-bare p h [] = refl
 any-bare p h (ToPut name size ∷ aims) = λ i. h name size i || any-bare p h aims i
-any-bare p h (ToGet name ∷ aims) = ap (λ (b : Bool). p (ToGet name) || b) (any-bare p h aims)
-any-bare p h (ToDrop name ∷ aims) = ap (λ (b : Bool). p (ToDrop name) || b) (any-bare p h aims)
-any-bare p h (ToAudit ∷ aims) = ap (λ (b : Bool). p ToAudit || b) (any-bare p h aims)
-any-bare p h (ToRepair ∷ aims) = ap (λ (b : Bool). p ToRepair || b) (any-bare p h aims)
-any-bare p h (ToUpgrade ∷ aims) = ap (λ (b : Bool). p ToUpgrade || b) (any-bare p h aims)
+any-bare p h (ToGet name ∷ aims) = ap (λ b. p (ToGet name) || b) (any-bare p h aims)
+any-bare p h (ToDrop name ∷ aims) = ap (λ b. p (ToDrop name) || b) (any-bare p h aims)
+any-bare p h (ToAudit ∷ aims) = ap (λ b. p ToAudit || b) (any-bare p h aims)
+any-bare p h (ToRepair ∷ aims) = ap (λ b. p ToRepair || b) (any-bare p h aims)
+any-bare p h (ToUpgrade ∷ aims) = ap (λ b. p ToUpgrade || b) (any-bare p h aims)
 
 shut-bare : (x : Sight) → is_shut (bare_sight x) ≡ is_shut x
-shut-bare x = ap (λ (b : Bool). x.is_alone || b) (any-bare is_upgrade (λ name size. refl) x.aims)
+shut-bare x = ap (λ b. x.is_alone || b) (any-bare is_upgrade (λ name size. refl) x.aims)
 
 way-bare : (aims : List Aim) (aim : Aim) →
     are_jobs_in_the_way 8 (map bare aims) aim ≡ are_jobs_in_the_way 8 aims aim
@@ -327,32 +325,26 @@ busy-bare x aim = λ i. shut-bare x i || way-bare x.aims aim i
 
 puts-bare : (names : List (List ℕ)) (aims : List Aim) → with_puts names (map bare aims) ≡ with_puts names aims
 puts-bare names [] = refl
-puts-bare names (ToPut name size ∷ aims) =
-    ap (λ (others : List (List ℕ)). with_name others name) (puts-bare names aims)
-puts-bare names (ToGet name ∷ aims) = puts-bare names aims
-puts-bare names (ToDrop name ∷ aims) = puts-bare names aims
-puts-bare names (ToAudit ∷ aims) = puts-bare names aims
-puts-bare names (ToRepair ∷ aims) = puts-bare names aims
-puts-bare names (ToUpgrade ∷ aims) = puts-bare names aims
+puts-bare names (ToPut name size ∷ aims) = ap (λ others. with_name others name) (puts-bare names aims)
+puts-bare names (_ ∷ aims) = puts-bare names aims
 
 crowded-bare : (x : Sight) (name : List ℕ) → is_crowded_for (bare_sight x) name ≡ is_crowded_for x name
-crowded-bare x name = ap (λ (names : List (List ℕ)). nat_le most_files (length names)
+crowded-bare x name = ap (λ names. nat_le most_files (length names)
     && not (is_name_among names name)) (puts-bare (names_in x.files) x.aims)
 
 -- no refusal of a begin hangs on the lengths of the puts that run
 pub causes-bare : (x : Sight) (aim : Aim) (own : Option ℕ) →
     causes 8 (bare_sight x) aim own ≡ causes 8 x aim own
-causes-bare x (ToPut name size) None = rw (busy-bare x (ToPut name size), crowded-bare x name) refl
-causes-bare x (ToPut name size) (Some p) = rw (busy-bare x (ToPut name size), crowded-bare x name) refl
 causes-bare x (ToGet name) own = rw (busy-bare x (ToGet name)) refl
 causes-bare x (ToDrop name) own = rw (busy-bare x (ToDrop name)) refl
 causes-bare x ToAudit own = rw (busy-bare x ToAudit) refl
 causes-bare x ToRepair own = rw (busy-bare x ToRepair) refl
 causes-bare x ToUpgrade own = rw (busy-bare x ToUpgrade) refl
+causes-bare x (ToPut name size) _ = rw (busy-bare x (ToPut name size), crowded-bare x name) refl
 
 not_long : (size : ℕ) → size ≤ 2 ^ 22 → nat_lt largest_file size ≡ false
 not_long size short = elim (cases_Bool (nat_lt largest_file size)) [
-  | inl t ↦ absurd (let x = ltb-true largest_file size t in omega (arith, x, short))
+  | inl t ↦ absurd (omega (arith, ltb-true largest_file size t, short))
   | inr f ↦ f
 ]
 
@@ -366,9 +358,8 @@ pub causes-same : (c : CoreView) (w : State) (told : Option ℕ) (v : Wish) (k :
     IsAimOf told v k → IsShortAim (aim_of k) →
     causes 8 (sight_in c) (aim_of_wish v) (profile_named v) ≡ causes 8 (sight_of w) (aim_of k)
     (profile_named v)
-causes-same c w told v k is of short =
-    sym (causes-bare (sight_in c) (aim_of_wish v) (profile_named v))
-    ∙ (ap (λ (x : Sight). causes 8 x (aim_of_wish v) (profile_named v)) (sight-same c w is)
+causes-same c w told v k is of short = sym (causes-bare (sight_in c) (aim_of_wish v) (profile_named v))
+    ∙ (ap (λ x. causes 8 x (aim_of_wish v) (profile_named v)) (sight-same c w is)
     ∙ (causes-bare (sight_of w) (aim_of_wish v) (profile_named v) ∙ by told of))
   where
     of_stream : (aim : Aim) → IsShortAim aim →
@@ -379,15 +370,14 @@ causes-same c w told v k is of short =
     by : (o : Option ℕ) → IsAimOf o v k →
         causes 8 (sight_of w) (aim_of_wish v) (profile_named v)
         ≡ causes 8 (sight_of w) (aim_of k) (profile_named v)
-    by None e = ap (λ (aim : Aim). causes 8 (sight_of w) aim (profile_named v)) e
-    by (Some n) e = ap (λ (aim : Aim). causes 8 (sight_of w) aim (profile_named v)) e
+    by None e = ap (λ aim. causes 8 (sight_of w) aim (profile_named v)) e
+    by (Some n) e = ap (λ aim. causes 8 (sight_of w) aim (profile_named v)) e
         ∙ of_stream (aim_of k) short
 
 -- whether a begin is refused before its words are looked at, by what a core keeps
 abbrev pub refused_early : Bool → Bool → ℕ → Option Refusal
-refused_early barred upgrade running =
-    if barred then Some refusal.MustReopen
-    else (if upgrade || nat_le 8 running then Some refusal.Busy else None)
+refused_early barred upgrade running = if barred then Some refusal.MustReopen else
+    (if upgrade || nat_le 8 running then Some refusal.Busy else None)
 
 -- what refuses a begin before all else is the same in a core and in the machine
 pub early : (a : Inside) (c : CoreView) (w : State) → view_of a ≡ c → CoreIs c w →
@@ -396,13 +386,13 @@ pub early : (a : Inside) (c : CoreView) (w : State) → view_of a ≡ c → Core
 early a c w v is = λ i. refused_early (bar i) (up i) (count i)
   where
     bar : a.barred ≡ w.is_barred
-    bar = ap (λ (x : CoreView). x.barred) v ∙ is.barred
+    bar = ap (λ x. x.barred) v ∙ is.barred
 
     up : has_upgrade a ≡ is_shut (sight_of w)
     up = sym (ap (list_any is_upgrade) (aims-seen a.jobs.items))
-        ∙ (ap (λ (x : CoreView). list_any is_upgrade (aims_in x.jobs)) v
+        ∙ (ap (λ x. list_any is_upgrade (aims_in x.jobs)) v
         ∙ (sym (shut-bare (sight_in c)) ∙ (ap is_shut (sight-same c w is) ∙ shut-bare (sight_of w))))
 
     count : length a.jobs.items ≡ length w.jobs
     count = sym (length-map a.jobs.items core_job)
-        ∙ (ap (λ (x : CoreView). length x.jobs) v ∙ pair_length c.setup c.jobs w.jobs is.jobs)
+        ∙ (ap (λ x. length x.jobs) v ∙ pair_length c.setup c.jobs w.jobs is.jobs)

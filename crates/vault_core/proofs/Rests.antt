@@ -1,5 +1,5 @@
 -- How the actions that a job has not yet made follow one another.
-use Rattle.vault_core.proofs.Words.{◌≡◌, ℕ, zero, suc, ◌+◌, ◌-◌, ◌<◌, ◌≤◌, Bool, true, false, List, [], ◌∷◌, ◌++◌, Some, length, map, take, set, get_or, None, inl, inr, refl, ap, sym, subst, ◌∙◌, append_assoc, arith, slice_get, cases_Bool, All-get_or, drop_all, get_or_from_slice_get, slice_get_within, flat_map, range_with_len, drop-get, Action, Store, Work, Remove, End, Ask, Fetch, Wish, Move, Spot, Cursor, Task, flag_at, numbers, call_of, calls_from, rewrite_of, rewrites_from, work_of, turn_of, turns_from, tasks_of, moves_from, actions_after, closing_of, tasks_on, beyond, rest_at, rest_of, comes_to, is_caller, is_worker, is_rewriter, IsWithin, IsSet, MayBeAt}
+use Rattle.vault_core.proofs.Words.{◌≡◌, ℕ, zero, suc, ◌+◌, ◌-◌, ◌<◌, ◌≤◌, Bool, true, false, List, [], ◌∷◌, ◌++◌, Some, length, map, take, set, get_or, inl, inr, refl, ap, sym, subst, ◌∙◌, append_assoc, arith, slice_get, cases_Bool, All-get_or, drop_all, get_or_from_slice_get, slice_get_within, flat_map, range_with_len, drop-get, Action, Store, Work, Remove, End, Ask, Fetch, Wish, Move, Spot, Cursor, Task, flag_at, numbers, call_of, calls_from, rewrite_of, rewrites_from, work_of, turn_of, turns_from, tasks_of, moves_from, actions_after, closing_of, tasks_on, beyond, rest_at, rest_of, comes_to, is_caller, is_worker, is_rewriter, IsWithin, IsSet, MayBeAt}
 use Rattle.std.proofs.Common.{drop}
 use Rattle.vault_core.specs.declared.wish.Wish.TheVariants as wish
 use Rattle.vault_core.specs.declared.cursor.Move.TheVariants as move
@@ -55,31 +55,31 @@ turns_none a n w fl o b l = ap (flat_map (turn_of n w fl o)) (numbers_none a b l
 -- ---- the first of them
 
 -- the actions of a job are those from its cursor on
-pub rest_is : (n : ℕ) (job : Job) (c : Cursor) → job.cursor ≡ c → rest_of n job ≡ rest_at n job c
+pub rest_is : (n : ℕ) (job : Job) {c : Cursor} → job.cursor ≡ c → rest_of n job ≡ rest_at n job c
 unfolding rest_of
-rest_is n job c e = ap (rest_at n job) e
+rest_is n job e = ap (rest_at n job) e
 
 -- the first of two lists in a row is the head of the front one
-pub first_of_front : (x : Action) (xs ys zs : List Action) → xs ≡ x ∷ ys → slice_get (xs ++ zs) 0 ≡ Some x
-first_of_front x xs ys zs e = rw e refl
+pub first_of_front : (x : Action) {xs : List Action} (ys zs : List Action) → xs ≡ x ∷ ys → slice_get (xs ++
+    zs) 0 ≡ Some x
+first_of_front x ys zs e = rw e refl
 
 -- a job at a call has that call next
 pub first_calling : (n : ℕ) (job : Job) (spot : Spot) (j : ℕ) → job.cursor ≡ at.Calling spot j →
     IsWithin n job.flagged job.cursor →
     slice_get (rest_of n job) 0 ≡ Some (call_of job.wish spot.object spot.turn j)
 first_calling n job spot j e h =
-    let w = subst (IsWithin n job.flagged) e h in
-    ap (λ (xs : List Action). slice_get xs 0) (rest_is n job _ e)
-    ∙ first_of_front _ _ _ _ (calls_here j n job.wish spot.object spot.turn w.0)
+    let w = rw e at h in
+    ap (λ xs. slice_get xs 0) (rest_is n job e)
+    ∙ first_of_front _ _ _ (calls_here j n job.wish spot.object spot.turn w.0)
 
 -- a job at a store of a repair has that store next
 pub first_rewriting : (n : ℕ) (job : Job) (spot : Spot) (j : ℕ) → job.cursor ≡ at.Rewriting spot j →
-    IsWithin n job.flagged job.cursor →
-    slice_get (rest_of n job) 0 ≡ Some (Store j spot.object spot.turn)
+    IsWithin n job.flagged job.cursor → slice_get (rest_of n job) 0 ≡ Some (Store j spot.object spot.turn)
 first_rewriting n job spot j e h =
-    let w = subst (IsWithin n job.flagged) e h in
-    ap (λ (xs : List Action). slice_get xs 0) (rest_is n job _ e)
-    ∙ first_of_front _ _ _ _ (rewrites_take j n job.flagged spot.object spot.turn w.0 w.1)
+    let w = rw e at h in
+    ap (λ xs. slice_get xs 0) (rest_is n job e)
+    ∙ first_of_front _ _ _ (rewrites_take j n job.flagged spot.object spot.turn w.0 w.1)
 
 -- work on a stripe starts with the stripe's own work
 pub first_work : (n : ℕ) (w : Wish) (fl : List Bool) (o t : ℕ) (zs : List Action) → is_worker w ≡ true →
@@ -90,39 +90,31 @@ first_work n w fl o t zs h = cc
 
 -- a job at work on a stripe has that work next
 pub first_working : (n : ℕ) (job : Job) (spot : Spot) → job.cursor ≡ at.Working spot →
-    comes_to job.wish job.cursor ≡ true →
-    slice_get (rest_of n job) 0 ≡ Some (Work spot.object spot.turn)
-first_working n job spot e h =
-    ap (λ (xs : List Action). slice_get xs 0) (rest_is n job _ e)
-    ∙ first_work n job.wish job.flagged spot.object spot.turn _
-    (subst (λ (c : Cursor). comes_to job.wish c ≡ true) e h)
+    comes_to job.wish job.cursor ≡ true → slice_get (rest_of n job) 0 ≡ Some (Work spot.object spot.turn)
+first_working n job spot e h = ap (λ (xs : List Action). slice_get xs 0) (rest_is n job e) ∙ first_work n
+    job.wish job.flagged spot.object spot.turn _ (rw e at h)
 
 -- a job at a removal has that removal next
 pub first_removing : (n : ℕ) (job : Job) (object j : ℕ) → job.cursor ≡ at.Removing object j →
-    IsWithin n job.flagged job.cursor →
-    slice_get (rest_of n job) 0 ≡ Some (Remove j object)
+    IsWithin n job.flagged job.cursor → slice_get (rest_of n job) 0 ≡ Some (Remove j object)
 first_removing n job object j e h =
-    let w = subst (IsWithin n job.flagged) e h in
-    ap (λ (xs : List Action). slice_get xs 0) (rest_is n job _ e)
-    ∙ first_of_front _ _ _ _ (ap (map (λ k. Remove k object)) (numbers_here j n w))
+    let w = rw e at h in
+    ap (λ xs. slice_get xs 0) (rest_is n job e)
+    ∙ first_of_front _ _ _ (ap (map (λ k. Remove k object)) (numbers_here j n w))
 
 -- a job at its end has its end next
 pub first_ending : (n : ℕ) (job : Job) → job.cursor ≡ at.Ending → slice_get (rest_of n job) 0 ≡ Some End
-first_ending n job e = ap (λ (xs : List Action). slice_get xs 0) (rest_is n job _ e)
+first_ending n job e = ap (λ xs. slice_get xs 0) (rest_is n job e)
 
 -- a job at a move of its first append has that move next
 pub first_opening : (n : ℕ) (job : Job) (m : Move) (x : Action) (xs : List Action) →
-    job.cursor ≡ at.Opening m → moves_from m ≡ x ∷ xs →
-    slice_get (rest_of n job) 0 ≡ Some x
-first_opening n job m x xs e h =
-    ap (λ (ys : List Action). slice_get ys 0) (rest_is n job _ e) ∙ first_of_front x (moves_from m) xs _ h
+    job.cursor ≡ at.Opening m → moves_from m ≡ x ∷ xs → slice_get (rest_of n job) 0 ≡ Some x
+first_opening n job m x xs e h = ap (λ ys. slice_get ys 0) (rest_is n job e) ∙ first_of_front x xs _ h
 
 -- a job at a move of its last append has that move next
 pub first_closing : (n : ℕ) (job : Job) (m : Move) (x : Action) (xs : List Action) →
-    job.cursor ≡ at.Closing m → moves_from m ≡ x ∷ xs →
-    slice_get (rest_of n job) 0 ≡ Some x
-first_closing n job m x xs e h =
-    ap (λ (ys : List Action). slice_get ys 0) (rest_is n job _ e) ∙ first_of_front x (moves_from m) xs _ h
+    job.cursor ≡ at.Closing m → moves_from m ≡ x ∷ xs → slice_get (rest_of n job) 0 ≡ Some x
+first_closing n job m x xs e h = ap (λ ys. slice_get ys 0) (rest_is n job e) ∙ first_of_front x xs _ h
 
 -- ---- the cursors behind
 
@@ -141,7 +133,7 @@ task_here n job place t l w some e = record {
   within = (l, some);
   rest = sym (
       ap (tasks_on n job) (drop-get job.tasks.items place t e)
-      ∙ (ap (λ (xs : List Action). (xs ++ tasks_of n job.wish job.flagged
+      ∙ (ap (λ xs. (xs ++ tasks_of n job.wish job.flagged
       (drop (place + 1) job.tasks.items)) ++ closing_of job.wish)
       (turns_here 0 n job.wish job.flagged t.object t.turns some)
       ∙ (append_assoc _ (tasks_of n job.wish job.flagged (drop (place + 1) job.tasks.items))
@@ -152,11 +144,9 @@ task_here n job place t l w some e = record {
 }
 
 -- behind its last task, a job is where its closing actions start
-pub tasks_over : (n : ℕ) (job : Job) (place : ℕ) (c : Cursor) → length job.tasks.items ≤ place →
-    MayBeAt n job c (closing_of job.wish) →
-    MayBeAt n job c (tasks_on n job (drop place job.tasks.items))
-tasks_over n job place c e h =
-    subst (MayBeAt n job c) (sym (ap (tasks_on n job) (drop_all place job.tasks.items e))) h
+pub tasks_over : {n : ℕ} {job : Job} (place : ℕ) {c : Cursor} → length job.tasks.items ≤ place →
+    MayBeAt n job c (closing_of job.wish) → MayBeAt n job c (tasks_on n job (drop place job.tasks.items))
+tasks_over {n} {job} place e h = rw (← (ap (tasks_on n job) (drop_all place job.tasks.items e))) at h
 
 -- a caller may be at the first call of the next turn of its task
 pub turn_here : (n : ℕ) (job : Job) (spot : Spot) → 0 < n → is_caller job.wish ≡ true →
@@ -166,7 +156,7 @@ turn_here n job spot l w h = record {
   comes = w;
   within = (l, h);
   rest = sym (
-      ap (λ (xs : List Action). xs ++ tasks_on n job (drop spot.behind job.tasks.items))
+      ap (λ xs. xs ++ tasks_on n job (drop spot.behind job.tasks.items))
       (turns_here (spot.turn + 1) n job.wish job.flagged spot.object spot.turns h)
       ∙ turn_joined n job.wish job.flagged spot.object (spot.turn + 1)
       (turns_from (spot.turn + 1 + 1) n job.wish job.flagged spot.object spot.turns)
@@ -175,43 +165,40 @@ turn_here n job spot l w h = record {
 }
 
 -- behind the last turn of a task, a job is at the tasks behind it
-pub turns_over : (n : ℕ) (job : Job) (spot : Spot) (c : Cursor) → spot.turns ≤ spot.turn + 1 →
+pub turns_over : {n : ℕ} {job : Job} (spot : Spot) {c : Cursor} → spot.turns ≤ spot.turn + 1 →
     MayBeAt n job c (tasks_on n job (drop spot.behind job.tasks.items)) → MayBeAt n job c (beyond n job spot)
-turns_over n job spot c h is = subst (MayBeAt n job c)
-    (sym (ap (λ (xs : List Action). xs ++ tasks_on n job (drop spot.behind job.tasks.items))
-    (turns_none (spot.turn + 1) n job.wish job.flagged spot.object spot.turns h))) is
+turns_over {n} {job} spot h is = rw (← (ap (λ (xs : List Action). xs ++ tasks_on n job (drop spot.behind
+    job.tasks.items)) (turns_none (spot.turn + 1) n job.wish job.flagged spot.object spot.turns h))) at is
 
 -- a job may be at a cursor for any list that equals one for which it may
-pub at_along : (n : ℕ) (job : Job) (c : Cursor) (xs ys : List Action) → xs ≡ ys → MayBeAt n job c xs →
+pub at_along : {n : ℕ} {job : Job} {c : Cursor} {xs ys : List Action} → xs ≡ ys → MayBeAt n job c xs →
     MayBeAt n job c ys
-at_along n job c xs ys e h = subst (MayBeAt n job c) e h
+at_along e h = rw e at h
 
 -- a job with tasks may be at the first call of the task at a place
-pub task_found : (n : ℕ) (job : Job) (place : ℕ) (t : Task) → 0 < n → IsSet n job →
+pub task_found : {n : ℕ} {job : Job} (place : ℕ) {t : Task} → 0 < n → IsSet n job →
     slice_get job.tasks.items place ≡ Some t →
     MayBeAt n job (at.Calling (record { object = t.object; turn = 0; turns = t.turns; behind = place + 1 }) 0)
     (tasks_on n job (drop place job.tasks.items))
-task_found n job place t l stays e = task_here n job place t l (calls job.tasks.items stays.idle e)
-    (subst (λ (x : Task). 0 < x.turns) (get_or_from_slice_get job.tasks.items place t t e)
-    (All-get_or (λ (x : Task). 0 < x.turns) job.tasks.items place t
-    (slice_get_within job.tasks.items place t e) stays.tasks)) e
+task_found {n} {job} place {t} l stays e = task_here n job place t l (calls job.tasks.items stays.idle e)
+    (rw (get_or_from_slice_get job.tasks.items place t t e) at (All-get_or (λ (x : Task). 0 < x.turns)
+    job.tasks.items place t (slice_get_within job.tasks.items place t e) stays.tasks)) e
   where
     calls : (xs : List Task) → (is_caller job.wish ≡ false → xs ≡ []) → slice_get xs place ≡ Some t →
         is_caller job.wish ≡ true
     calls xs idle f = elim (cases_Bool (is_caller job.wish)) [
       | inl h ↦ h
-      | inr h ↦ (let g : slice_get [] place ≡ Some t =
-          subst (λ (ys : List Task). slice_get ys place ≡ Some t) (idle h) f in let k : None ≡ Some t = g in
+      | inr h ↦ (let k = subst (λ (ys : List Task). slice_get ys place ≡ Some t) (idle h) f in
           cc)
     ]
 
 -- a job that works on no stripes goes on to the next turn
-pub no_work : (n : ℕ) (job : Job) (spot : Spot) (c : Cursor) →
+pub no_work : {n : ℕ} {job : Job} (spot : Spot) {c : Cursor} →
     ((name : List ℕ) → job.wish ≡ wish.Get name → ⊥) → (job.wish ≡ wish.Repair → ⊥) →
     MayBeAt n job c (beyond n job spot) →
     MayBeAt n job c (work_of n job.wish job.flagged spot.object spot.turn ++ beyond n job spot)
-no_work n job spot c get repair h = at_along n job c _ _
-    (ap (λ (xs : List Action). xs ++ beyond n job spot) (sym (none job.wish get repair))) h
+no_work {n} {job} spot get repair h = at_along
+    (ap (λ xs. xs ++ beyond n job spot) (sym (none job.wish get repair))) h
   where
     none : (w : Wish) → ((name : List ℕ) → w ≡ wish.Get name → ⊥) → (w ≡ wish.Repair → ⊥) →
         work_of n w job.flagged spot.object spot.turn ≡ []
@@ -226,17 +213,17 @@ moves_shift move.Body more = refl
 moves_shift m more = refl
 
 drop_front : (x : Action) (xs ys zs : List Action) → xs ≡ x ∷ ys → drop 1 (xs ++ zs) ≡ ys ++ zs
-drop_front x xs ys zs e = ap (λ (l : List Action). drop 1 (l ++ zs)) e
+drop_front x xs ys zs e = ap (λ l. drop 1 (l ++ zs)) e
 
 -- behind a move of the first append come the moves behind it, and all tasks
 pub rest_opening : (n : ℕ) (job : Job) (m : Move) → job.cursor ≡ at.Opening m →
     drop 1 (rest_of n job) ≡ actions_after m ++ tasks_on n job job.tasks.items
-rest_opening n job m e = ap (drop 1) (rest_is n job _ e) ∙ moves_shift m (tasks_on n job job.tasks.items)
+rest_opening n job m e = ap (drop 1) (rest_is n job e) ∙ moves_shift m (tasks_on n job job.tasks.items)
 
 -- behind a move of the last append come the moves behind it, and the end
 pub rest_closing : (n : ℕ) (job : Job) (m : Move) → job.cursor ≡ at.Closing m →
     drop 1 (rest_of n job) ≡ actions_after m ++ End ∷ []
-rest_closing n job m e = ap (drop 1) (rest_is n job _ e) ∙ moves_shift m (End ∷ [])
+rest_closing n job m e = ap (drop 1) (rest_is n job e) ∙ moves_shift m (End ∷ [])
 
 -- behind a call come the calls of the providers behind it, the work, and what is beyond
 pub rest_calling : (n : ℕ) (job : Job) (spot : Spot) (j : ℕ) → job.cursor ≡ at.Calling spot j →
@@ -244,16 +231,16 @@ pub rest_calling : (n : ℕ) (job : Job) (spot : Spot) (j : ℕ) → job.cursor 
     drop 1 (rest_of n job) ≡ calls_from (j + 1) n job.wish spot.object
     spot.turn ++ (work_of n job.wish job.flagged spot.object spot.turn ++ beyond n job spot)
 rest_calling n job spot j e h =
-    let w = subst (IsWithin n job.flagged) e h in
-    ap (drop 1) (rest_is n job _ e) ∙ drop_front _ _ _ _ (calls_here j n job.wish spot.object spot.turn w.0)
+    let w = rw e at h in
+    ap (drop 1) (rest_is n job e) ∙ drop_front _ _ _ _ (calls_here j n job.wish spot.object spot.turn w.0)
 
 -- behind a store of a repair come those of the providers behind it, and what is beyond
 pub rest_rewriting : (n : ℕ) (job : Job) (spot : Spot) (j : ℕ) → job.cursor ≡ at.Rewriting spot j →
     IsWithin n job.flagged job.cursor →
     drop 1 (rest_of n job) ≡ rewrites_from (j + 1) n job.flagged spot.object spot.turn ++ beyond n job spot
 rest_rewriting n job spot j e h =
-    let w = subst (IsWithin n job.flagged) e h in
-    ap (drop 1) (rest_is n job _ e)
+    let w = rw e at h in
+    ap (drop 1) (rest_is n job e)
     ∙ drop_front _ _ _ _ (rewrites_take j n job.flagged spot.object spot.turn w.0 w.1)
 
 work_shift : (n : ℕ) (w : Wish) (fl : List Bool) (o t : ℕ) (more : List Action) → is_worker w ≡ true →
@@ -267,7 +254,7 @@ pub rest_working : (n : ℕ) (job : Job) (spot : Spot) → job.cursor ≡ at.Wor
     is_worker job.wish ≡ true →
     drop 1 (rest_of n job) ≡ drop 1 (work_of n job.wish job.flagged spot.object spot.turn) ++ beyond n job
     spot
-rest_working n job spot e h = ap (drop 1) (rest_is n job _ e)
+rest_working n job spot e h = ap (drop 1) (rest_is n job e)
     ∙ work_shift n job.wish job.flagged spot.object spot.turn (beyond n job spot) h
 
 -- behind a removal come those of the providers behind it, and the end
@@ -275,9 +262,8 @@ pub rest_removing : (n : ℕ) (job : Job) (object j : ℕ) → job.cursor ≡ at
     IsWithin n job.flagged job.cursor →
     drop 1 (rest_of n job) ≡ map (λ k. Remove k object) (numbers (j + 1) n) ++ End ∷ []
 rest_removing n job object j e h =
-    let w = subst (IsWithin n job.flagged) e h in
-    ap (drop 1) (rest_is n job _ e)
-    ∙ drop_front _ _ _ _ (ap (map (λ k. Remove k object)) (numbers_here j n w))
+    let w = rw e at h in
+    ap (drop 1) (rest_is n job e) ∙ drop_front _ _ _ _ (ap (map (λ k. Remove k object)) (numbers_here j n w))
 
 -- ---- where a job is behind its next action
 
@@ -286,16 +272,15 @@ pub opened_on : (n : ℕ) (job : Job) (m next : Move) → job.cursor ≡ at.Open
     comes_to job.wish job.cursor ≡ true → moves_from next ≡ actions_after m →
     MayBeAt n job (at.Opening next) (drop 1 (rest_of n job))
 opened_on n job m next e h f = record {
-  comes = subst (λ (c : Cursor). comes_to job.wish c ≡ true) e h;
+  comes = rw e at h;
   within = tt;
-  rest = ap (λ (xs : List Action). xs ++ tasks_on n job job.tasks.items) f ∙ sym (rest_opening n job m e);
+  rest = ap (λ xs. xs ++ tasks_on n job job.tasks.items) f ∙ sym (rest_opening n job m e);
 }
 
 -- behind the first append a job may be where its tasks start
 pub opened : (n : ℕ) (job : Job) (m : Move) (c : Cursor) → job.cursor ≡ at.Opening m → [] ≡ actions_after m →
     MayBeAt n job c (tasks_on n job job.tasks.items) → MayBeAt n job c (drop 1 (rest_of n job))
-opened n job m c e f h =
-    at_along n job c _ _ (ap (λ (xs : List Action). xs ++ tasks_on n job job.tasks.items) f
+opened n job m c e f h = at_along (ap (λ xs. xs ++ tasks_on n job job.tasks.items) f
     ∙ sym (rest_opening n job m e)) h
 
 -- behind a move of the last append a job may be at the next one
@@ -303,9 +288,9 @@ pub closed_on : (n : ℕ) (job : Job) (m next : Move) → job.cursor ≡ at.Clos
     comes_to job.wish job.cursor ≡ true → moves_from next ≡ actions_after m →
     MayBeAt n job (at.Closing next) (drop 1 (rest_of n job))
 closed_on n job m next e h f = record {
-  comes = subst (λ (c : Cursor). comes_to job.wish c ≡ true) e h;
+  comes = rw e at h;
   within = tt;
-  rest = ap (λ (xs : List Action). xs ++ End ∷ []) f ∙ sym (rest_closing n job m e);
+  rest = ap (λ xs. xs ++ End ∷ []) f ∙ sym (rest_closing n job m e);
 }
 
 -- behind the last append a job may be at its end
@@ -314,7 +299,7 @@ pub closed : (n : ℕ) (job : Job) (m : Move) → job.cursor ≡ at.Closing m �
 closed n job m e f = record {
   comes = refl;
   within = tt;
-  rest = ap (λ (xs : List Action). xs ++ End ∷ []) f ∙ sym (rest_closing n job m e);
+  rest = ap (λ xs. xs ++ End ∷ []) f ∙ sym (rest_closing n job m e);
 }
 
 -- behind a removal a job may be at that from the next provider
@@ -322,19 +307,18 @@ pub removed_on : (n : ℕ) (job : Job) (object j : ℕ) → job.cursor ≡ at.Re
     comes_to job.wish job.cursor ≡ true → IsWithin n job.flagged job.cursor →
     j + 1 < n → MayBeAt n job (at.Removing object (j + 1)) (drop 1 (rest_of n job))
 removed_on n job object j e h w l = record {
-  comes = subst (λ (c : Cursor). comes_to job.wish c ≡ true) e h;
+  comes = rw e at h;
   within = l;
   rest = sym (rest_removing n job object j e w);
 }
 
 -- behind the last removal a job may be at its end
 pub removed : (n : ℕ) (job : Job) (object j : ℕ) → job.cursor ≡ at.Removing object j →
-    IsWithin n job.flagged job.cursor → n ≤ j + 1 →
-    MayBeAt n job at.Ending (drop 1 (rest_of n job))
+    IsWithin n job.flagged job.cursor → n ≤ j + 1 → MayBeAt n job at.Ending (drop 1 (rest_of n job))
 removed n job object j e w l = record {
   comes = refl;
   within = tt;
-  rest = ap (λ (xs : List ℕ). map (λ k. Remove k object) xs ++ End ∷ []) (sym (numbers_none (j + 1) n l))
+  rest = ap (λ xs. map (λ k. Remove k object) xs ++ End ∷ []) (sym (numbers_none (j + 1) n l))
       ∙ sym (rest_removing n job object j e w);
 }
 
@@ -343,25 +327,21 @@ pub called : (n : ℕ) (job : Job) (spot : Spot) (j : ℕ) (c : Cursor) → n �
     MayBeAt n job c (work_of n job.wish job.flagged spot.object spot.turn ++ beyond n job spot) →
     MayBeAt n job c (calls_from j n job.wish spot.object
     spot.turn ++ (work_of n job.wish job.flagged spot.object spot.turn ++ beyond n job spot))
-called n job spot j c l h = at_along n job c _ _
-    (ap (λ (xs : List Action). xs ++ (work_of n job.wish job.flagged spot.object spot.turn ++ beyond n job
-    spot)) (sym (calls_none j n job.wish spot.object spot.turn l))) h
+called n job spot j c l h = at_along (ap (λ xs. xs ++ (work_of n job.wish job.flagged spot.object
+    spot.turn ++ beyond n job spot)) (sym (calls_none j n job.wish spot.object spot.turn l))) h
 
 -- stores on no further provider
-pub rewritten : (n : ℕ) (job : Job) (spot : Spot) (j : ℕ) (c : Cursor) →
-    rewrites_from j n job.flagged spot.object spot.turn ≡ [] →
-    MayBeAt n job c (beyond n job spot) →
+pub rewritten : {n : ℕ} {job : Job} (spot : Spot) (j : ℕ) {c : Cursor} →
+    rewrites_from j n job.flagged spot.object spot.turn ≡ [] → MayBeAt n job c (beyond n job spot) →
     MayBeAt n job c (rewrites_from j n job.flagged spot.object spot.turn ++ beyond n job spot)
-rewritten n job spot j c e h =
-    at_along n job c _ _ (ap (λ (xs : List Action). xs ++ beyond n job spot) (sym e)) h
+rewritten {n} {job} spot j {c} e h = at_along (ap (λ xs. xs ++ beyond n job spot) (sym e)) h
 
 -- a get has no stores behind its work
-pub worked : (n : ℕ) (job : Job) (spot : Spot) (c : Cursor) → (job.wish ≡ wish.Repair → ⊥) →
-    is_worker job.wish ≡ true →
-    MayBeAt n job c (beyond n job spot) →
+pub worked : {n : ℕ} {job : Job} (spot : Spot) {c : Cursor} → (job.wish ≡ wish.Repair → ⊥) →
+    is_worker job.wish ≡ true → MayBeAt n job c (beyond n job spot) →
     MayBeAt n job c (drop 1 (work_of n job.wish job.flagged spot.object spot.turn) ++ beyond n job spot)
-worked n job spot c repair works h = at_along n job c _ _
-    (ap (λ (xs : List Action). xs ++ beyond n job spot) (sym (none job.wish repair works))) h
+worked {n} {job} spot {c} repair works h = at_along
+    (ap (λ xs. xs ++ beyond n job spot) (sym (none job.wish repair works))) h
   where
     none : (w : Wish) → (w ≡ wish.Repair → ⊥) → is_worker w ≡ true →
         drop 1 (work_of n w job.flagged spot.object spot.turn) ≡ []
@@ -389,11 +369,10 @@ each_first : (f : Task → Task) (d : Task) (xs : List Task) (i : ℕ) → i < l
     set (front_each f i xs) i (f (get_or (front_each f i xs) i d)) ≡ front_each f (suc i) xs
 each_first f d [] i l = absurd (omega arith)
 each_first f d (x ∷ xs) zero l = refl
-each_first f d (x ∷ xs) (suc i) l = ap (λ (ys : List Task). f x ∷ ys) (each_first f d xs i (omega arith))
+each_first f d (x ∷ xs) (suc i) l = ap (λ ys. f x ∷ ys) (each_first f d xs i (omega arith))
 
 -- the tasks changed so far and one more are the tasks changed up to there
-pub each_more : (f : Task → Task) (d : Task) (xs ys : List Task) (i : ℕ) → i < length xs →
+pub each_more : (f : Task → Task) (d : Task) (xs : List Task) {ys : List Task} (i : ℕ) → i < length xs →
     ys ≡ front_each f i xs → set ys i (f (get_or ys i d)) ≡ front_each f (i + 1) xs
-each_more f d xs ys i l e =
-    subst (λ (zs : List Task). set zs i (f (get_or zs i d)) ≡ front_each f (i + 1) xs) (sym e)
-    (each_first f d xs i l ∙ ap (λ (k : ℕ). front_each f k xs) (let k : suc i ≡ i + 1 = omega arith in k))
+each_more f d xs i l e = rw (← e) at (each_first f d xs i l ∙ ap (λ (k : ℕ). front_each f k xs)
+    (let k : suc i ≡ i + 1 = omega arith in k))

@@ -16,12 +16,13 @@ length-rewrite fl o t j = elim (cases_Bool (flag_at fl j)) [
 length-flat : {X : Type 0} (f g : X → List Action) (ks : List X) → ((k : X) → length (f k) ≡ length (g k)) →
     length (flat_map f ks) ≡ length (flat_map g ks)
 length-flat f g [] h = refl
-length-flat f g (k ∷ ks) h =
-    let a = length-append (f k) (flat_map f ks) in
-    let b = length-append (g k) (flat_map g ks) in
-    let c = h k in
-    let i = length-flat f g ks h in
-    omega (arith, a, b, c, i)
+length-flat f g (k ∷ ks) h = omega (
+  arith,
+  length-append (f k) (flat_map f ks),
+  length-append (g k) (flat_map g ks),
+  h k,
+  length-flat f g ks h,
+)
 
 length-rewrites : (n : ℕ) (fl : List Bool) (o t : ℕ) →
     length (rewrites_from 0 n fl o t) ≡ length (rewrites_from 0 n fl 0 0)
@@ -55,21 +56,21 @@ length-turns : (n : ℕ) (w : Wish) (fl : List Bool) (o b : ℕ) →
     length (turns_from 0 n w fl o b) ≡ b * size_of_turn n w fl
 length-turns n w fl o b = length-each (turn_of n w fl o) (size_of_turn n w fl) (numbers 0 b)
     (length-turn n w fl o)
-    ∙ ap (λ (k : ℕ). k * size_of_turn n w fl) (length-range_with_len 0 (b - 0)
+    ∙ ap (λ k. k * size_of_turn n w fl) (length-range_with_len 0 (b - 0)
     ∙ (let e : b - 0 ≡ b = omega arith in e))
 
 pub length-tasks : (n : ℕ) (w : Wish) (fl : List Bool) (ts : List Task) →
     length (tasks_of n w fl ts) ≡ sum_by (λ (t : Task). t.turns * size_of_turn n w fl) ts
 length-tasks n w fl [] = refl
-length-tasks n w fl (t ∷ ts) =
-    let a = length-append (turns_from 0 n w fl t.object t.turns) (tasks_of n w fl ts) in
-    let b = length-turns n w fl t.object t.turns in
-    let d = sum_by-cons (λ (t : Task). t.turns * size_of_turn n w fl) t ts in
-    let i = length-tasks n w fl ts in
-    omega (arith, a, b, d, i)
+length-tasks n w fl (t ∷ ts) = omega (
+  arith,
+  length-append (turns_from 0 n w fl t.object t.turns) (tasks_of n w fl ts),
+  length-turns n w fl t.object t.turns,
+  sum_by-cons (λ (t : Task). t.turns * size_of_turn n w fl) t ts,
+  length-tasks n w fl ts,
+)
 
 -- from its files on
 pub length-from : (n : ℕ) (w : Wish) (fl : List Bool) (ts : List Task) → length (tasks_from n w fl ts)
     ≡ sum_by (λ (t : Task). t.turns * size_of_turn n w fl) ts + length (closing_of w)
-length-from n w fl ts = let a = length-append (tasks_of n w fl ts) (closing_of w) in
-    let b = length-tasks n w fl ts in omega (arith, a, b)
+length-from n w fl ts = omega (arith, length-append (tasks_of n w fl ts) (closing_of w), length-tasks n w fl ts)

@@ -1,5 +1,5 @@
 -- What a job has before it at its begin are the actions of its plan.
-use Rattle.vault_core.proofs.Words.{◌≡◌, ℕ, ◌+◌, ◌-◌, ◌≤◌, Bool, true, false, List, [], ◌∷◌, ◌++◌, Some, None, length, map, inl, inr, refl, ap, sym, ◌∙◌, append_assoc, arith, nat_lt, ◌==◌, if◌then◌else◌, flat_map, range_with_len, cases_Bool, false≢true, nat_tests, append-nil, length-drop, upto, Setup, profiled, Aim, Action, SyncGate, Store, Ask, Work, Remove, End, append_actions, on_each_provider, on_each_stripe, store_plan, open_actions, rewrite_plan, rounds_of, remove_plan, Plan, plan_actions, Wish, Task, core_pins, plan_in, planned, planned_by, flag_at, numbers, call_of, calls_from, rewrite_of, turn_of, turns_from, tasks_of, tasks_from, tasks_on, targets_of, stripes_in, turns_for, tasks_made, is_taker, listed_older, removals_of, aim_of_wish, is_opener, is_caller, plan_kept}
+use Rattle.vault_core.proofs.Words.{◌≡◌, ℕ, ◌+◌, ◌≤◌, Bool, true, false, List, [], ◌∷◌, ◌++◌, Some, None, length, map, inl, inr, refl, ap, sym, ◌∙◌, append_assoc, arith, nat_lt, ◌==◌, if◌then◌else◌, flat_map, range_with_len, cases_Bool, false≢true, nat_tests, append-nil, length-drop, upto, Setup, profiled, Aim, Action, SyncGate, Store, Ask, Work, Remove, End, append_actions, on_each_provider, on_each_stripe, store_plan, open_actions, rewrite_plan, rounds_of, remove_plan, Plan, plan_actions, Wish, core_pins, plan_in, planned, planned_by, flag_at, numbers, call_of, calls_from, rewrite_of, turn_of, turns_from, tasks_of, tasks_from, tasks_on, targets_of, stripes_in, turns_for, tasks_made, is_taker, listed_older, removals_of, aim_of_wish, is_opener, is_caller, plan_kept}
 use Rattle.std.proofs.Common.{Option, drop}
 use Rattle.std.proofs.Math.Seq.{drop-append-add}
 use Rattle.std.proofs.lemmas.List.{length-append}
@@ -13,7 +13,7 @@ abbrev pub front_of : Wish → List Action
 front_of w = if is_opener w then append_actions else []
 
 numbers-upto : (n : ℕ) → numbers 0 n ≡ upto n
-numbers-upto n = ap (range_with_len 0) (let e : n - 0 ≡ n = omega arith in e)
+numbers-upto n = ap (range_with_len 0) (omega arith)
 
 -- lists of lists are the same where each of them is
 pub flat-same : {X : Type 0} (f g : X → List Action) (ks : List X) → ((k : X) → f k ≡ g k) →
@@ -26,10 +26,10 @@ tasks-pins : (n : ℕ) (w : Wish) (fl : List Bool) (f : Pinned → ℕ) (ps : Li
 tasks-pins n w fl f [] = refl
 tasks-pins n w fl f (p ∷ ps) = elim (cases_Bool (nat_lt 0 (f p))) [
   | inl t ↦ rw (t, tasks-pins n w fl f ps) refl
-  | inr e ↦ ap (λ (b : Bool). tasks_of n w fl
+  | inr e ↦ ap (λ b. tasks_of n w fl
       (if b then record { object = p.id; turns = f p } ∷ tasks_made f ps else tasks_made f ps)) e
       ∙ (tasks-pins n w fl f ps
-      ∙ ap (λ (xs : List Action). xs ++ flat_map (λ (p : Pinned). turns_from 0 n w fl p.id (f p)) ps)
+      ∙ ap (λ xs. xs ++ flat_map (λ p. turns_from 0 n w fl p.id (f p)) ps)
       (sym (turns_none 0 n w fl p.id (f p) (none (f p) e))))
 ]
   where
@@ -53,7 +53,7 @@ put-turn s name size own fl o t = append-nil (calls_from 0 s.n (wish.Put name si
 
 get-turn : (s : Setup) (name : List ℕ) (fl : List Bool) (o t : ℕ) →
     turn_of s.n (wish.Get name) fl o t ≡ open_actions s o t
-get-turn s name fl o t = ap (λ (xs : List Action). xs ++ Work o t ∷ []) (calls-each s.n (wish.Get name) o t)
+get-turn s name fl o t = ap (λ xs. xs ++ Work o t ∷ []) (calls-each s.n (wish.Get name) o t)
 
 audit-turn : (s : Setup) (fl : List Bool) (o t : ℕ) →
     turn_of s.n wish.Audit fl o t ≡ on_each_provider s (λ j. Ask j o t)
@@ -61,10 +61,8 @@ audit-turn s fl o t = append-nil (calls_from 0 s.n wish.Audit o t) ∙ calls-eac
 
 repair-turn : (s : Setup) (fl : List Bool) (o t : ℕ) →
     turn_of s.n wish.Repair fl o t ≡ open_actions s o t ++ rewrite_plan s (flag_at fl) o t
-repair-turn s fl o t =
-    let a = calls-each s.n wish.Repair o t in
-    let b = ap (flat_map (rewrite_of fl o t)) (numbers-upto s.n) in
-    (λ i. a i ++ Work o t ∷ b i)
+repair-turn s fl o t = (λ i. (calls-each s.n wish.Repair o t) i ++ Work o t ∷
+    (ap (flat_map (rewrite_of fl o t)) (numbers-upto s.n)) i)
     ∙ sym (append_assoc (map (call_of wish.Repair o t) (upto s.n)) (Work o t ∷ [])
     (rewrite_plan s (flag_at fl) o t))
 
@@ -80,7 +78,7 @@ files-are : (s : Setup) (v : Wish) (fl : List Bool) (g : Pinned → List Action)
     ((f : Pinned) → turns_from 0 s.n v fl f.id (turns_for s v f) ≡ g f) → (ps : List Pinned) →
     tasks_of s.n v fl (tasks_made (turns_for s v) ps) ≡ flat_map g ps
 files-are s v fl g h ps = tasks-pins s.n v fl (turns_for s v) ps
-    ∙ flat-same (λ (f : Pinned). turns_from 0 s.n v fl f.id (turns_for s v f)) g ps h
+    ∙ flat-same (λ f. turns_from 0 s.n v fl f.id (turns_for s v f)) g ps h
 
 -- a plan of these parts, which takes nothing away
 abbrev plan_as : Aim → ℕ → ℕ → List Bool → List Pinned → Plan Pinned
@@ -99,40 +97,32 @@ actions-are : (s : Setup) (profile subject : ℕ) (fl : List Bool) (pins : List 
     front_of v ++ tasks_from s.n v fl (tasks_made (turns_for s v) (targets_of v profile subject pins))
     ≡ plan_actions core_pins s (plan_as aim profile subject fl pins) (aim_of_wish v)
 actions-are s profile subject fl pins (wish.Put name size own) aim idle =
-    ap (λ (xs : List Action). append_actions ++ (xs ++ (append_actions ++ End ∷ [])))
-    (files-are s (wish.Put name size own) fl
-    (λ (f : Pinned). on_each_stripe (profiled s f.profile) f.length
-    (λ stripe. on_each_provider s (λ j. Store j f.id stripe)))
-    (λ f. turns-each s.n (wish.Put name size own) fl f.id (stripes_in s f)
-    (λ stripe. on_each_provider s (λ j. Store j f.id stripe)) (put-turn s name size own fl f.id))
-    (record { id = subject; length = size; profile = profile } ∷ [])
+    ap (λ xs. append_actions ++ (xs ++ (append_actions ++ End ∷ []))) (files-are s (wish.Put name size own) fl
+    (λ f. on_each_stripe (profiled s f.profile) f.length
+    (λ stripe. on_each_provider s (λ j. Store j f.id stripe))) (λ f. turns-each s.n (wish.Put name size own)
+    fl f.id (stripes_in s f) (λ stripe. on_each_provider s (λ j. Store j f.id stripe))
+    (put-turn s name size own fl f.id)) (record { id = subject; length = size; profile = profile } ∷ [])
     ∙ append-nil (store_plan s profile subject size))
 actions-are s profile subject fl pins (wish.Get name) aim idle =
-    ap (λ (xs : List Action). xs ++ End ∷ [])
-    (files-are s (wish.Get name) fl
-    (λ (f : Pinned). on_each_stripe (profiled s f.profile) f.length (open_actions s f.id))
-    (λ f. turns-each s.n (wish.Get name) fl f.id (stripes_in s f) (open_actions s f.id)
-    (get-turn s name fl f.id)) pins)
+    ap (λ xs. xs ++ End ∷ []) (files-are s (wish.Get name) fl (λ f. on_each_stripe (profiled s f.profile)
+    f.length (open_actions s f.id)) (λ f. turns-each s.n (wish.Get name) fl f.id (stripes_in s f)
+    (open_actions s f.id) (get-turn s name fl f.id)) pins)
 actions-are s profile subject fl pins (wish.Drop name) aim idle =
-    ap (λ (ts : List Task). append_actions ++ (tasks_of s.n (wish.Drop name) fl ts ++ End ∷ [])) (idle refl)
+    ap (λ ts. append_actions ++ (tasks_of s.n (wish.Drop name) fl ts ++ End ∷ [])) (idle refl)
 actions-are s profile subject fl pins wish.Audit aim idle =
-    ap (λ (xs : List Action). append_actions ++ (xs ++ (append_actions ++ End ∷ [])))
-    (files-are s wish.Audit fl
-    (λ (f : Pinned). flat_map (λ round. on_each_provider s (λ j. Ask j f.id round))
-    (rounds_of (profiled s f.profile) f.length))
-    (λ f. turns-each s.n wish.Audit fl f.id (turns_for s wish.Audit f)
-    (λ round. on_each_provider s (λ j. Ask j f.id round)) (audit-turn s fl f.id)
+    ap (λ xs. append_actions ++ (xs ++ (append_actions ++ End ∷ [])))
+    (files-are s wish.Audit fl (λ f. flat_map (λ round. on_each_provider s (λ j. Ask j f.id round))
+    (rounds_of (profiled s f.profile) f.length)) (λ f. turns-each s.n wish.Audit fl f.id
+    (turns_for s wish.Audit f) (λ round. on_each_provider s (λ j. Ask j f.id round)) (audit-turn s fl f.id)
     ∙ ap (flat_map (λ round. on_each_provider s (λ j. Ask j f.id round))) (rounds-are s f)) pins)
-actions-are s profile subject fl pins wish.Repair aim idle =
-    ap (λ (xs : List Action). xs ++ (append_actions ++ End ∷ []))
-    (files-are s wish.Repair fl
-    (λ (f : Pinned). on_each_stripe (profiled s f.profile) f.length
+actions-are s profile subject fl pins wish.Repair aim idle = ap (λ xs. xs ++ (append_actions ++ End ∷ []))
+    (files-are s wish.Repair fl (λ f. on_each_stripe (profiled s f.profile) f.length
     (λ stripe. open_actions s f.id stripe ++ rewrite_plan s (flag_at fl) f.id stripe))
     (λ f. turns-each s.n wish.Repair fl f.id (stripes_in s f)
     (λ stripe. open_actions s f.id stripe ++ rewrite_plan s (flag_at fl) f.id stripe)
     (λ t. repair-turn s fl f.id t)) pins)
 actions-are s profile subject fl pins wish.Upgrade aim idle =
-    ap (λ (ts : List Task). tasks_of s.n wish.Upgrade fl ts ++ (append_actions ++ End ∷ [])) (idle refl)
+    ap (λ ts. tasks_of s.n wish.Upgrade fl ts ++ (append_actions ++ End ∷ [])) (idle refl)
 
 -- the tasks of a job are those of its plan
 abbrev pub HasTasks : Setup → Job → Type 0
@@ -143,34 +133,34 @@ HasTasks s job = job.tasks.items
 pub whole : (s : Setup) (job : Job) → job.older ≡ None → (is_caller job.wish ≡ false → job.tasks.items ≡ []) →
     HasTasks s job → front_of job.wish ++ tasks_on s.n job job.tasks.items ≡ planned s (plan_kept job)
 unfolding planned_by
-whole s job none idle made =
-    ap (λ (ts : List Task). front_of job.wish ++ tasks_from s.n job.wish job.flagged ts) made
+whole s job none idle made = ap (λ ts. front_of job.wish ++ tasks_from s.n job.wish job.flagged ts) made
     ∙ (actions-are s job.profile job.subject job.flagged job.pinned.items job.wish (aim_of_wish job.wish)
     (λ h. sym made ∙ idle h)
-    ∙ ap (λ (o : Option ℕ). plan_actions core_pins s
+    ∙ ap (λ o. plan_actions core_pins s
     (record (plan_in (plan_kept job)) { older = listed_older o }) (aim_of_wish job.wish)) (sym none))
 
 -- ---- what a job takes away
 
 removals-are : (s : Setup) (o : Option ℕ) → remove_plan s (listed_older o) ++ End ∷ [] ≡ removals_of s.n o
 removals-are s None = refl
-removals-are s (Some object) = ap (λ (xs : List Action). xs ++ End ∷ [])
+removals-are s (Some object) = ap (λ xs. xs ++ End ∷ [])
     (append-nil (on_each_provider s (λ j. Remove j object))
     ∙ ap (map (λ j. Remove j object)) (sym (numbers-upto s.n)))
 
 reassoc : (a b c d : List Action) → a ++ (b ++ (c ++ d)) ≡ (a ++ (b ++ c)) ++ d
-reassoc a b c d =
-    sym (append_assoc a (b ++ c) d ∙ ap (λ (l : List Action). a ++ l) (append_assoc b c d))
+reassoc a b c d = sym (append_assoc a (b ++ c) d ∙ ap (λ l. a ++ l) (append_assoc b c d))
 
 -- where a list has its last two actions left, another one with the same front has what is behind it
 tail-is : (front : List Action) (p : ℕ) (ys : List Action) →
     drop p (front ++ End ∷ []) ≡ SyncGate ∷ End ∷ [] → drop (p + 1) (front ++ ys) ≡ ys
 tail-is front p ys h =
-    let a : length (drop p (front ++ End ∷ [])) ≡ 2 = ap (λ (xs : List Action). length xs) h in
-    let b = length-drop p (front ++ End ∷ []) in
-    let c = length-append front (End ∷ []) in
-    let e : p + 1 ≡ length front + 0 = omega (arith, a, b, c) in
-    ap (λ (k : ℕ). drop k (front ++ ys)) e ∙ drop-append-add front ys 0
+    let e : p + 1 ≡ length front + 0 = omega (
+      arith,
+      ap (λ (xs : List Action). length xs) h,
+      length-drop p (front ++ End ∷ []),
+      length-append front (End ∷ []),
+    ) in
+    ap (λ k. drop k (front ++ ys)) e ∙ drop-append-add front ys 0
 
 -- behind the last gate of a put or a drop its plan has the removals of what it takes away
 pub behind_last : (s : Setup) (plan : Plan Pinned) (v : Wish) (p : ℕ) (o : Option ℕ) → is_taker v ≡ true →

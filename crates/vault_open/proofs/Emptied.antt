@@ -18,8 +18,7 @@ length-reads : (cells : Cells) → length (reads cells) ≡ length cells
 length-reads cells = length-map {B = ℕ} cells (λ c. c.0)
 
 written-front : (cells : Cells) → length (reads cells) ≤ 9 → written 0 (text []) cells ≡ loose (text [])
-written-front cells short =
-    written-behind [] cells 0 refl (text [])
+written-front cells short = written-behind [] cells 0 refl (text [])
     ∙ ap (λ (l : Cells). loose (text []) ++ l) (drop_all 9 cells (omega (arith, short, length-reads cells)))
 
 -- a disk of at most nine bytes, once emptied, is the text of no records

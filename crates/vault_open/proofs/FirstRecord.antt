@@ -84,8 +84,7 @@ module _ (base : ℕ) (body : List ℕ) (blank : Cells) (within : base + 1 ≤ l
   front = omega (arith, length-take (base + 1) held, within)
 
   body-read : reads (written (base + 1) body (synced blank)) ≡ half
-  body-read =
-      reads-within (base + 1) body (synced blank)
+  body-read = reads-within (base + 1) body (synced blank)
       (subst (λ (l : List ℕ). base + 1 ≤ length l) (sym (reads-synced blank)) within)
       ∙ ap (λ (l : List ℕ). take (base + 1) l ++ (body ++ drop (base + 1 + length body) l)) (reads-synced blank)
 
@@ -94,8 +93,7 @@ module _ (base : ℕ) (body : List ℕ) (blank : Cells) (within : base + 1 ≤ l
 
   gate-read : (read : List ℕ) → read ≡ half →
       reads (written base (1 ∷ []) (firm read)) ≡ take base held ++ (1 ∷ behind)
-  gate-read read is =
-      ap (λ (l : List ℕ). reads (written base (1 ∷ []) (firm l))) is
+  gate-read read is = ap (λ (l : List ℕ). reads (written base (1 ∷ []) (firm l))) is
       ∙ reads-within base (1 ∷ []) (firm half)
       (subst (λ (l : List ℕ). base ≤ length l) (sym (reads-firm half)) size)
       ∙ ap (λ (l : List ℕ). take base l ++ (1 ∷ drop (base + 1) l)) (reads-firm half)

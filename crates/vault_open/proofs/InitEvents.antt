@@ -91,8 +91,7 @@ module _ (s : Setup) (w : State) (moment : ℕ) (providers : List Provider) wher
 
   happens : (outcome : Outcome) (new : State) → w.is_open ≡ false → is_setup s ≡ true →
       InitsClosed w s outcome new → Happens 8 moment w (Init s) outcome new
-  happens outcome new closed valid h =
-      subst (λ (b : Bool). Inits w s b outcome new) (sym closed)
+  happens outcome new closed valid h = subst (λ (b : Bool). Inits w s b outcome new) (sym closed)
       (subst (λ (b : Bool). InitsBy w s b outcome new) (sym valid) h)
 
   -- an init with a setup beyond its limits is refused, as an event of the machine
@@ -170,12 +169,7 @@ module _ (s : Setup) (w : State) (moment : ℕ) (providers : List Provider) (old
     happens = happens s w moment providers _ _ may.closed valid (
       doubt,
       leaves,
-      (
-        f1,
-        le w providers old f0 may are f1 never,
-        subst (λ (k : ℕ). Rose k f1) (sym are.faults) rose,
-        refl,
-      ),
+      (f1, le w providers old f0 may are f1 never, subst (λ (k : ℕ). Rose k f1) (sym are.faults) rose, refl),
     );
     devices = devices-at doubt images;
   }
@@ -278,9 +272,8 @@ module _ (s : Setup) (w : State) (moment : ℕ) (providers : List Provider) (old
   already-by (inl (inl (same, area_is))) =
       settled (ap is_some (sym may.sound.journal.alike.setup) ∙ up w.journal same)
       (inl (inl (here w.area w.journal area_is same)))
-  already-by (inl (inr (switching, same, area_is))) =
-      settled (second-set_up w.records may.sound.accepted (may.sound.switching switching).version)
-      (inr (inr (record {
+  already-by (inl (inr (switching, same, area_is))) = settled
+      (second-set_up w.records may.sound.accepted (may.sound.switching switching).version) (inr (inr (record {
         switching = switching;
         stands = here (other_area w.area) (packed w.journal) area_is same;
       })))
@@ -308,19 +301,16 @@ module _ (s : Setup) (w : State) (moment : ℕ) (providers : List Provider) (old
 module _ (w : State) (providers : List Provider) (old : Cells) (f0 : ℕ) (may : MayInit w (Some old))
     (are : AreDevices (devices (Some old) f0 providers) w) where
   no-bad : (at : ℕ) → 9 < length (journal_read old) → IsBadInit (journal_read old) at → ⊥
-  no-bad at long bad =
-      (let is = shown-long w (reads old) (read w providers old f0 may are)
+  no-bad at long bad = (let is = shown-long w (reads old) (read w providers old f0 may are)
       (omega (arith, long, length-take largest_journal (reads old))) in
       by is.0 is.1 is.2 is.3 bad)
     where
       by : (area : Area) (rs : List Record) → StandsActive (reads old) area rs → MayRead w area rs →
           IsBadInit (journal_read old) at → ⊥
       by area rs stands may_read (inl bad) = bad_is_none (journal_read old) at area rs bad
-          (active-take largest_journal (reads old) area rs stands
-          (read-fits 8 w may.sound area rs may_read))
-      by area rs stands may_read (inr bad) =
-          (let one = one_meaning (reads old) area bad.area rs bad.records stands
-          (active-front largest_journal (reads old) bad.area bad.records bad.stands) in
+          (active-take largest_journal (reads old) area rs stands (read-fits 8 w may.sound area rs may_read))
+      by area rs stands may_read (inr bad) = (let one = one_meaning (reads old) area bad.area rs bad.records
+          stands (active-front largest_journal (reads old) bad.area bad.records bad.stands) in
           others-refused bad.records
           (subst AreAccepted one.1 (read-accepted 8 w may.sound area rs may_read)) bad.otherwise)
 

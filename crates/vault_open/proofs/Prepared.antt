@@ -27,12 +27,11 @@ pub half-empty : (told mid new : Option Cells) → mid ≡ option_map synced tol
     (IfSome mid IsShort → EachImage new (λ image. length image ≤ 9))
     → IfSome told (λ cells. IsHalfReady cells new)
 half-empty None mid new is short left = tt
-half-empty (Some cells) mid new is short left =
-    inr (
-      short,
-      left (subst (λ (o : Option Cells). IfSome o IsShort) (sym is)
-          (subst (λ (l : List ℕ). length l ≤ 9) (sym (reads-synced cells)) short)),
-    )
+half-empty (Some cells) mid new is short left = inr (
+  short,
+  left (subst (λ (o : Option Cells). IfSome o IsShort) (sym is)
+      (subst (λ (l : List ℕ). length l ≤ 9) (sym (reads-synced cells)) short)),
+)
 
 -- ---- why it is not made ready
 

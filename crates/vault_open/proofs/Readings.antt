@@ -7,10 +7,9 @@ reads-synced cells = reads-firm (reads cells)
 
 -- a read of so many bytes after a sync
 pub front_read : (held now later : Option Cells) (len n k : ℕ) (out items : List ℕ) →
-    now ≡ option_map synced held → later ≡ now → IfSome now (λ cells. len ≡ length cells)
-    → 9 < len → n ≡ min len largest_journal →
-    IfSome later (λ cells. take k out ≡ take n (drop 0 (reads cells))) → items ≡ take k out
-    → IfSome held (λ cells. (9 < length (reads cells)) × (items ≡ journal_read cells))
+    now ≡ option_map synced held → later ≡ now → IfSome now (λ cells. len ≡ length cells) → 9 < len →
+    n ≡ min len largest_journal → IfSome later (λ cells. take k out ≡ take n (drop 0 (reads cells))) →
+    items ≡ take k out → IfSome held (λ cells. (9 < length (reads cells)) × (items ≡ journal_read cells))
 front_read None now later len n k out items is same len_is long n_is read items_are = tt
 front_read (Some cells) now later len n k out items is same len_is long n_is read items_are =
     let size : len ≡ length (synced cells) =

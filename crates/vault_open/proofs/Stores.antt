@@ -67,8 +67,7 @@ module _ (bytes : List ℕ) (area : Area) (rs : List Record) (t : Kept) (base en
     whole : (told : Option Cells) → IsLookedAt told bytes →
         IfSome told (λ cells. (9 < length (reads cells)) × StandsActive (journal_read cells) area rs)
     whole None looked = tt
-    whole (Some cells) looked =
-        (looked.0, subst (λ (l : List ℕ). StandsActive l area rs) looked.1 is.stands)
+    whole (Some cells) looked = (looked.0, subst (λ (l : List ℕ). StandsActive l area rs) looked.1 is.stands)
 
     -- a disk whose records were folded and have a setup is read as these records
     pub read : (told : Option Cells) → IsLookedAt told bytes → IsRead told area rs
@@ -83,10 +82,8 @@ module _ (bytes : List ℕ) (area : Area) (rs : List Record) (t : Kept) (base en
   firm : (told now : Option Cells) → now ≡ option_map synced told → IsLookedAt told bytes →
       IfSome now (StandsFirm area rs)
   firm None now same looked = subst (λ (o : Option Cells). IfSome o (StandsFirm area rs)) (sym same) tt
-  firm (Some cells) now same looked =
-      subst (λ (o : Option Cells). IfSome o (StandsFirm area rs)) (sym same)
-      (read-firm (reads cells) area rs
-      (active-front largest_journal (reads cells) area rs
+  firm (Some cells) now same looked = subst (λ (o : Option Cells). IfSome o (StandsFirm area rs)) (sym same)
+      (read-firm (reads cells) area rs (active-front largest_journal (reads cells) area rs
       (subst (λ (l : List ℕ). StandsActive l area rs) looked.1 is.stands)))
 
   -- a store with the folded table, where its area begins and its text ends and the setup with its master is

@@ -1,12 +1,9 @@
-ghost use Rattle.std.specs.Prelude.{◌≡◌, ◌<◌, ◌≤◌, length, IfOk, IfSome, IfNone, OnOk, IsErrOf, is_some};
-ghost use Rattle.std.specs.Option.{option_map};
+ghost use Rattle.std.specs.Prelude.{◌≡◌, ◌<◌, ◌≤◌, length, IfOk, IfSome, IfNone, IsOk, IsErrOf};
 ghost use Rattle.stream_model.specs.declared.fault.WriteFault.TheVariants as write_fault;
 ghost use Rattle.device_defs.specs.Cells.{reads};
-ghost use Rattle.device_defs.specs.Disks.{synced};
-ghost use Rattle.device_defs.specs.Faults.{HasCause};
-ghost use Rattle.device_defs.specs.Told.{Goes};
 ghost use Rattle.record_defs.specs.Records.{largest_journal};
-ghost use Rattle.opening_defs.specs.Journals.{journal_read, IsResynced};
+ghost use Rattle.opening_defs.specs.Journals.{journal_read};
+ghost use Rattle.vault_open.specs.Disks.{ReadsDisk};
 
 use disk_model::Disk;
 use record_defs::LARGEST_JOURNAL;
@@ -24,11 +21,8 @@ pub(crate) fn read_disk<D: Disk>(alloc: Global, disk: &mut D) -> Result<Option<V
     ensures bytes { IfOk result (λ found. IfSome (D.holds disk.old) (λ cells. IfSome found (λ v.
         (9 < length (reads cells)) × (v.items ≡ journal_read cells)))) }
     ensures few { IfOk result (λ found. IfSome found (λ v. length v.items ≤ largest_journal)) }
-    ensures synced { OnOk result (D.holds disk.new ≡ option_map synced (D.holds disk.old)) }
-    ensures disk { Goes IsResynced (D.holds disk.old) (D.holds disk.new) }
-    ensures tells { is_some (D.holds disk.new) ≡ is_some (D.holds disk.old) }
-    ensures no_fault { (IsErrOf result write_fault.Failed → ⊥) → D.faults disk.new ≡ D.faults disk.old }
-    ensures cause { HasCause (D.faults disk.old) (D.faults disk.new) (IsErrOf result write_fault.Failed) }
+    ensures disk { ReadsDisk (D.holds disk.old) (D.holds disk.new) (D.faults disk.old) (D.faults disk.new)
+        (IsOk result) (IsErrOf result write_fault.Failed) }
 {
     disk.sync()?;
     let len = disk.len()?;

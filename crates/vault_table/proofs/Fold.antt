@@ -121,8 +121,7 @@ fold-by rs t setup version files started id audit running due = record {
 -- a table that refuses no record is, with it, the fold of the records with it on top
 pub goes-on : (t : Kept) (rs : List Record) (r : Record) → IsFoldOf rs t → refusal t r ≡ None →
     IsFoldOf (r ∷ rs) (with_record t r)
-goes-on t rs (SetUp s) is p =
-    fold-by _ _ refl is.version is.files is.started is.id is.audit is.running is.due
+goes-on t rs (SetUp s) is p = fold-by _ _ refl is.version is.files is.started is.id is.audit is.running is.due
 goes-on t rs (PutStart id name) is p =
     let q = has-setup t (PutStart id name) (λ s e. cc) p in
     let number : id ≡ id_after t = grind (arith, nat_tests, q) in
@@ -152,8 +151,7 @@ goes-on t rs (PutDoneIn id size profile) is p =
     (λ k. at-set t id k some ∙ rw (is.started k) refl)
     (ap (λ n. suc (t.passed + n)) (length-set t.started (id - suc t.passed) None)
     ∙ is.id) is.audit is.running is.due
-goes-on t rs Version is p =
-    fold-by _ _ is.setup refl is.files is.started is.id is.audit is.running is.due
+goes-on t rs Version is p = fold-by _ _ is.setup refl is.files is.started is.id is.audit is.running is.due
 goes-on t rs (Resume id audit) is p =
     let q = has-setup t (Resume id audit) (λ s e. cc) p in
     let none : t.passed + length t.started ≡ 0 = grind (arith, nat_tests, q) in
@@ -186,18 +184,17 @@ at-inside t id name e = elim (cases_lt t.passed id) [
 pub at-kept : (passed : ℕ) (started : List (Option (List ℕ))) (id : ℕ) (name : List ℕ) →
     (if nat_le id passed then None else started_from started (id - suc passed)) ≡ Some name →
     (passed < id) × (id - passed - 1 < length started)
-at-kept passed started id name e =
-    at-inside (record {
-      setup = None;
-      version = 1;
-      files = [];
-      passed = passed;
-      started = started;
-      next_audit = 1;
-      running = None;
-      due = None;
-      spare = 0;
-    }) id name e
+at-kept passed started id name e = at-inside (record {
+  setup = None;
+  version = 1;
+  files = [];
+  passed = passed;
+  started = started;
+  next_audit = 1;
+  running = None;
+  due = None;
+  spare = 0;
+}) id name e
 
 -- a table that has forgotten its started puts and its running audit is that of a packed journal
 pub is_packed : (t : Kept) (rs : List Record) (s : Setup) → AreAccepted rs → setup_of rs ≡ Some s →

@@ -115,8 +115,7 @@ pub names-set : (sizes letters : List ℕ) (place y : ℕ) → place < length si
     ≡ set (kept_names sizes letters) place None
 names-set [] letters place y l large e = absurd (omega (arith, l))
 names-set (s ∷ sizes) letters zero y l large e = rw e (grind (arith, nat_tests, large))
-names-set (s ∷ sizes) letters (suc place) y l large e =
-    ap (λ r. name_of s letters ∷ r)
+names-set (s ∷ sizes) letters (suc place) y l large e = ap (λ r. name_of s letters ∷ r)
     (names-set sizes (drop (s % 128) letters) place y (omega (arith, l)) large e)
 
 -- names within their limits stay so without one
@@ -139,8 +138,7 @@ get_or-any (x ∷ xs) (suc k) d e l = get_or-any xs k d e (omega (arith, l))
 -- the mark of a place tells where the first name of its 64 begins
 pub mark-at : (sizes marks : List ℕ) (place : ℕ) → AreNameMarks sizes marks → place < length sizes →
     slice_index_or marks (place / 64) 0 ≡ begins_at sizes (place / 64 * 64)
-mark-at sizes marks place m l =
-    (let within : place / 64 < length marks = omega (arith, m.count, l) in
+mark-at sizes marks place m l = (let within : place / 64 < length marks = omega (arith, m.count, l) in
     let order : 64 * (place / 64) ≡ place / 64 * 64 = omega arith in
     m.at (place / 64) within ∙ ap (begins_at sizes) order)
 
@@ -195,8 +193,7 @@ marks-push sizes marks x at whole m = elim (cases_Bool (length sizes % 64 == 0))
 -- a name has at most 64 bytes, so its size has room below the mark
 pub name-short : (name : List ℕ) → is_name name ≡ true →
     (length name < 128) × (length name % 128 ≡ length name) × (length name ≤ 64)
-name-short name is =
-    (let low : nat_le (length name) 64 ≡ true = grind (arith, is) in
+name-short name is = (let low : nat_le (length name) 64 ≡ true = grind (arith, is) in
     let le : length name ≤ 64 = leb-true (length name) 64 low in
     (omega (arith, le), omega (arith, le), le))
 
@@ -205,8 +202,7 @@ name-short name is =
 -- a place whose size is marked as done has no name
 pub name-done : (sizes letters : List ℕ) (k x : ℕ) → k < length sizes → x ≡ slice_index_or sizes k x →
     128 ≤ x → started_from (kept_names sizes letters) k ≡ None
-name-done sizes letters k x l e large =
-    (let f : x ≡ get_or sizes k 0 = e ∙ get_or-any sizes k x 0 l in
+name-done sizes letters k x l e large = (let f : x ≡ get_or sizes k 0 = e ∙ get_or-any sizes k x 0 l in
     let done : nat_le 128 (get_or sizes k 0) ≡ true =
     le-leb 128 (get_or sizes k 0) (omega (arith, f, large)) in
     name-at sizes letters k l
@@ -216,8 +212,7 @@ name-done sizes letters k x l e large =
 -- a name ends within the letters
 pub name-fits : (sizes : List ℕ) (k x : ℕ) → k < length sizes → x ≡ slice_index_or sizes k x → x < 128 →
     begins_at sizes k + x ≤ begins_at sizes (length sizes)
-name-fits sizes k x l e small =
-    (let f : x ≡ get_or sizes k 0 = e ∙ get_or-any sizes k x 0 l in
+name-fits sizes k x l e small = (let f : x ≡ get_or sizes k 0 = e ∙ get_or-any sizes k x 0 l in
     let step = begins-step sizes k l in
     let le = begins-le sizes (k + 1) (length sizes) (omega (arith, l)) in
     omega (arith, f, step, le, small))

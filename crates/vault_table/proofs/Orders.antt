@@ -156,26 +156,22 @@ with-before f (g ∷ back) p = grind (arith, p, before-not_after f.name g.name)
 module _ (fs : List File) (name : List ℕ) (i : ℕ) where
   -- the file of a name is found at its place
   pub find-here : (here : IsHere fs name i) → find_file fs name ≡ Some here.file
-  find-here here =
-      ap (λ (l : List File). find_file l name) here.parts
+  find-here here = ap (λ (l : List File). find_file l name) here.parts
       ∙ skip-find name (take i fs) (here.file ∷ here.behind) here.after
       ∙ grind (arith, here.same, same-refl name)
 
   -- a read at its place gives the file
   pub file-here : (here : IsHere fs name i) (d : File) → get_or fs i d ≡ here.file
-  file-here here d =
-      ap (λ (l : List File). get_or l i d) here.parts
+  file-here here d = ap (λ (l : List File). get_or l i d) here.parts
       ∙ get_or_at (take i fs) here.file here.behind d i (length-take-le i fs (omega (arith, here.within)))
 
   -- a name that would stand between two files has none
   pub find-between : IsBetween fs name i → find_file fs name ≡ None
-  find-between is =
-      ap (λ (l : List File). find_file l name) (sym (take-append-drop i fs))
+  find-between is = ap (λ (l : List File). find_file l name) (sym (take-append-drop i fs))
       ∙ skip-find name (take i fs) (drop i fs) is.after ∙ find-before name (drop i fs) is.before
 
   without-here : (here : IsHere fs name i) → without_file fs name ≡ take i fs ++ here.behind
-  without-here here =
-      ap (λ (l : List File). without_file l name) here.parts
+  without-here here = ap (λ (l : List File). without_file l name) here.parts
       ∙ skip-without name (take i fs) (here.file ∷ here.behind) here.after
       ∙ ap (λ (l : List File). take i fs ++ l)
       (grind (arith, here.same, same-refl name, without-before name here.behind here.before))
@@ -193,8 +189,7 @@ module _ (fs : List File) (name : List ℕ) (i : ℕ) where
   drop-here here = without-here here ∙ ap (λ (l : List File). take i fs ++ l) (behind-is here)
 
   drop-between : IsBetween fs name i → without_file fs name ≡ fs
-  drop-between is =
-      ap (λ (l : List File). without_file l name) (sym (take-append-drop i fs))
+  drop-between is = ap (λ (l : List File). without_file l name) (sym (take-append-drop i fs))
       ∙ skip-without name (take i fs) (drop i fs) is.after
       ∙ ap (λ (l : List File). take i fs ++ l) (without-before name (drop i fs) is.before)
       ∙ take-append-drop i fs

@@ -9,8 +9,7 @@ use Rattle.vault_table.proofs.Fold.{same-refusal, goes-on}
 -- a table that took a record is the fold of the records with it
 pub fold-ok : (old new : Kept) (res : Result Unit Refused) (e r : Record) → r ≡ e → Applies old e res new →
     (rs : List Record) → IsFoldOf rs old → OnOk res (IsFoldOf (r ∷ rs) new)
-fold-ok old new (Ok x) e r is a rs fold =
-    subst (λ (q : Record). IsFoldOf (q ∷ rs) new) (sym is)
+fold-ok old new (Ok x) e r is a rs fold = subst (λ (q : Record). IsFoldOf (q ∷ rs) new) (sym is)
     (subst (λ (t : Kept). IsFoldOf (e ∷ rs) t) (sym a.1) (goes-on old rs e fold a.0))
 fold-ok old new (Err why) e r is a rs fold = tt
 

@@ -11,7 +11,7 @@ ghost use Rattle.vault_open.specs.Disks.{ReadsDisk};
 ghost use Rattle.code_defs.specs.Profiles.{is_unknown};
 ghost use Rattle.vault.specs.Devices.{devices_seen};
 ghost use Rattle.command_jobs.specs.declared.open.Unopened.TheVariants as unopened;
-ghost use Rattle.command_jobs.specs.Opened.{IsFreshOver, IsFreshFor, HasJudged};
+ghost use Rattle.command_jobs.specs.Opened.{IsFreshOver, IsFreshFor, HasReadStore};
 ghost use Rattle.command_jobs.specs.Kinds.{kind_of};
 ghost use Rattle.command_jobs.specs.Ends.{IsSeenBefore, IsSeenAfter, EndsOver};
 ghost use Rattle.command_jobs.specs.Packs.{PackEndsOver};
@@ -30,7 +30,7 @@ use vault::{BeginFault, Ended, PackAnswer, Vault};
 /// `open_vault`.
 pub fn open_vault<D: Disk>(alloc: Global, disk: &mut D, handed: usize) -> Result<Vault, Unopened>
     ensures disk { ReadsDisk (D.holds disk.old) (D.holds disk.new) (D.faults disk.old) (D.faults disk.new)
-        (HasJudged result) (IsErrOf result unopened.DiskFault) }
+        (HasReadStore result) (IsErrOf result unopened.DiskFault) }
 {
     let opened = command_jobs::open_vault(alloc, disk, handed);
     opened

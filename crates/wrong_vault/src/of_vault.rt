@@ -1,7 +1,6 @@
 //! Bodies of vault's public functions, for its must-fail edits to spoil.
 ghost use Rattle.std.specs.Prelude.{◌≡◌, ◌<◌, ◌≤◌, ◌-◌, ◌^◌, ℕ, Bool, List, None, Err, true, false, length, is_some, slice_get, IfOk};
 ghost use Rattle.std.specs.Option.{option_map};
-ghost use Rattle.device_defs.specs.Faults.{HasCause};
 ghost use Rattle.device_defs.specs.Providers.{Provider};
 ghost use Rattle.journal_pack.specs.Packs.{moves_of};
 ghost use Rattle.machine_defs.specs.Alone.{new_scrub};

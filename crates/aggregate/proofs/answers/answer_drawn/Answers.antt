@@ -24,13 +24,10 @@ loop-k-preserved g c =
     ap (held_symbol C.size held) (sym row) ∙ sym c.symbol_in.ensures ∙ c.in-Some.is in
     record {
       held = from_more (λ (j : ℕ). is_some (held_symbol C.size held (picked_row C.seed C.rows j)) ≡ true)
-          C.picks c.loop-k.k m next
-          (ap is_some there) c.loop-k.invariant.held;
+          C.picks c.loop-k.k m next (ap is_some there) c.loop-k.invariant.held;
       total = splits_more C (λ row. unwrap_or (held_symbol C.size held row) 0) c.loop-k.k m c.in-Some.symbol
-          c.loop-k.sum c.mul-sum.result next
-          (ap (λ s. unwrap_or s 0) there)
-          (c.mul-sum.ensures ∙ (λ i. nim_mul (drawn.weight_is i) (c.add.ensures i)))
-          c.loop-k.invariant.total;
+          c.loop-k.sum c.mul-sum.result next (ap (λ s. unwrap_or s 0) there)
+          (c.mul-sum.ensures ∙ (λ i. nim_mul (drawn.weight_is i) (c.add.ensures i))) c.loop-k.invariant.total;
     }
 
 -- a picked row without a symbol

@@ -17,6 +17,5 @@ loop-j-preserved c =
 
 pub returns : goal.returns
 returns c =
-    bare_answers-each (shaped_object c.args.master.now.0 c.args.file.now)
-    (asked c.args.drawn.now.challenge) c.args.heard.now c.loop-j.out (omega arith)
-    (λ k below. c.loop-j.invariant k (omega (arith, below)))
+    bare_answers-each (shaped_object c.args.master.now.0 c.args.file.now) (asked c.args.drawn.now.challenge)
+    c.args.heard.now c.loop-j.out (omega arith) (λ k below. c.loop-j.invariant k (omega (arith, below)))

@@ -12,8 +12,7 @@ loop-j-preserved c =
     let j = c.loop-j.j in
     record {
       done = put_more (λ (k : ℕ). next_count p (get_or points k 0) (get_or answers k None)
-          (get_or counts k 0)) c.loop-j.counts j c.counted_once.result 0 (omega arith)
-          (c.counted_once.ensures
+          (get_or counts k 0)) c.loop-j.counts j c.counted_once.result 0 (omega arith) (c.counted_once.ensures
           ∙ ap (λ v. if is_seen v c.index-answers-j.result then get_or c.loop-j.counts j 0
           else get_or c.loop-j.counts j 0 + 1) c.value.ensures
           ∙ (λ i. next_count p ((c.index-points-j.is
@@ -26,8 +25,6 @@ loop-j-preserved c =
     }
 
 pub returns : goal.returns
-returns c =
-    counted-each c.args.work.now.rest c.args.points.now c.args.answers.now c.args.counts.now c.loop-j.counts
-    (length c.args.points.now)
-    (omega arith) c.requires.answers c.requires.counts (omega arith)
-    (λ k below. c.loop-j.invariant.done k (omega (arith, below)))
+returns c = counted-each c.args.work.now.rest c.args.points.now c.args.answers.now c.args.counts.now
+    c.loop-j.counts (length c.args.points.now) (omega arith) c.requires.answers c.requires.counts
+    (omega arith) (λ k below. c.loop-j.invariant.done k (omega (arith, below)))

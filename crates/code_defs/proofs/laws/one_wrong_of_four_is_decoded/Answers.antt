@@ -21,11 +21,9 @@ pub returns-clause-row : goal.returns-clause-row
 returns-clause-row c = worked_row
 
 pub returns-clause-key : goal.returns-clause-key
-returns-clause-key c =
-    key_equation nim nim_laws nim_endless four word (1 ∷ 2 ∷ []) (1 ∷ 2 ∷ []) 2 four_apart refl
-    (omega arith) worked_row
+returns-clause-key c = key_equation nim nim_laws nim_endless four word (1 ∷ 2 ∷ []) (1 ∷ 2 ∷ []) 2 four_apart
+    refl (omega arith) worked_row
 
 pub returns-clause-divides : goal.returns-clause-divides
-returns-clause-divides c =
-    (decode_exact nim nim_laws nim_endless four word 1 1 2 nim_laws.one_not_zero refl four_apart worked_row
-    (omega arith) (omega arith) (omega arith) (1 ∷ []) worked_decodes).0
+returns-clause-divides c = (decode_exact nim nim_laws nim_endless four word 1 1 2 nim_laws.one_not_zero refl
+    four_apart worked_row (omega arith) (omega arith) (omega arith) (1 ∷ []) worked_decodes).0

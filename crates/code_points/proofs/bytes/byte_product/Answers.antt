@@ -10,6 +10,5 @@ returns-then-a-eq0 c =
     ]
 
 pub returns : goal.returns
-returns c =
-    product_by_logs c.args.a c.args.b c.ranges.a.fits c.ranges.b.fits (omega arith) (omega arith) ∙
+returns c = product_by_logs c.args.a c.args.b c.ranges.a.fits c.ranges.b.fits (omega arith) (omega arith) ∙
     sym (nim_mul_at 3 c.args.a c.args.b c.ranges.a.fits c.ranges.b.fits)

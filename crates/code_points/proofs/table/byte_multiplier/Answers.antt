@@ -8,6 +8,5 @@ returns-then-profile-eq0 c =
     first_is c.args.place (omega arith) ∙ ap (λ n. multiplier_of c.args.place (upto n)) (sym e)
 
 pub returns-else-profile-eq0 : goal.returns-else-profile-eq0
-returns-else-profile-eq0 c =
-    other_is c.args.profile.number c.args.place c.if-profile-eq0.false (omega arith)
+returns-else-profile-eq0 c = other_is c.args.profile.number c.args.place c.if-profile-eq0.false (omega arith)
     ∙ ap (λ n. multiplier_of c.args.place (upto n)) (sym c.args.profile.size_is)

@@ -9,8 +9,7 @@ loop-j-preserved c =
     let master = c.args.master.now.0 in
     record {
       are = each_more c.loop-j.keys (λ (j : ℕ). file_key master 77 id j) c.loop-j.j c.from-in-loop-j.result
-          c.file_key.result []
-          c.loop-j.invariant.are c.from-in-loop-j.ensures (omega arith)
+          c.file_key.result [] c.loop-j.invariant.are c.from-in-loop-j.ensures (omega arith)
           (c.file_key.ensures ∙ ap (λ (j : ℕ). file_key master 77 id j) c.from.ensures);
       many = length-set c.loop-j.keys _ _ ∙ c.loop-j.invariant.many;
     }

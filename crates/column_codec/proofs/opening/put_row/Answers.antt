@@ -7,8 +7,7 @@ use Rattle.column_codec.proofs.opening.put_row.Goals as goal
 pub loop-j-preserved : goal.loop-j-preserved
 loop-j-preserved c = record {
   here = put_here c.loop-j.out (λ (i : ℕ). value c.args.work.now.rest i) c.args.keep c.args.place c.loop-j.j
-      c.value.result c.requires.place
-      (omega (
+      c.value.result c.requires.place (omega (
         arith,
         index_within c.args.l c.args.keep c.loop-j.j c.args.place _ c.requires.fits
             (omega arith) c.requires.place,

@@ -5,9 +5,8 @@ use Rattle.column_codec.proofs.table.entries.Goals as goal
 pub loop-place-preserved : goal.loop-place-preserved
 loop-place-preserved c = record {
   filled = each_more c.loop-place.entries (product_at c.args.constant) c.loop-place.place c.loop-place.place
-      c.entry.result 0
-      c.loop-place.invariant.filled (omega arith) (omega (arith, c.loop-place.invariant.many))
-      c.entry.ensures;
+      c.entry.result 0 c.loop-place.invariant.filled (omega arith)
+      (omega (arith, c.loop-place.invariant.many)) c.entry.ensures;
   many = length-set c.loop-place.entries c.loop-place.place c.entry.result ∙ c.loop-place.invariant.many;
 }
 

@@ -13,10 +13,8 @@ pub returns-clause-other : goal.returns-clause-other
 returns-clause-other c = rows-differ
 
 pub returns-clause-forgery : goal.returns-clause-forgery
-returns-clause-forgery c =
-    λ master. forgery-of_other (example master) (7 ∷ []) 0
-    (λ stripe. three_seen (example master) (8 ∷ [])) 0 0
-    (three_opened (example master) (8 ∷ []))
-    (row_polynomial (example master) (symbols_in (example master) (8 ∷ []) 0) 0)
-    refl example-shape (row-in master) (three-open (example master) (8 ∷ [])) (three-accepted master (8 ∷ []))
+returns-clause-forgery c = λ master. forgery-of_other (example master) (7 ∷ []) 0
+    (λ stripe. three_seen (example master) (8 ∷ [])) 0 0 (three_opened (example master) (8 ∷ []))
+    (row_polynomial (example master) (symbols_in (example master) (8 ∷ []) 0) 0) refl example-shape
+    (row-in master) (three-open (example master) (8 ∷ [])) (three-accepted master (8 ∷ []))
     (rows-differ master)

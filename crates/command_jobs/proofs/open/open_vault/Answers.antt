@@ -9,9 +9,8 @@ use Rattle.command_jobs.proofs.open.open_vault.Goals as goal
 pub returns-in_err-vault-clause-refused : goal.returns-in_err-vault-clause-refused
 returns-in_err-vault-clause-refused g c = told-by c.from_residual.result
     (unopened_of c.in_err-vault.field-0.0) (IsUnopened (g.D.Disk.holds c.args.disk.now) c.args.handed)
-    c.from_residual.ensures.1
-    (fault-seen (g.D.Disk.holds c.args.disk.now) c.args.handed c.in_err-vault.field-0.0
-    c.in_err-vault.ensures.start.refused)
+    c.from_residual.ensures.1 (fault-seen (g.D.Disk.holds c.args.disk.now) c.args.handed
+    c.in_err-vault.field-0.0 c.in_err-vault.ensures.start.refused)
 
 pub returns-in_err-vault-clause-reads : goal.returns-in_err-vault-clause-reads
 returns-in_err-vault-clause-reads g c = reads-resynced _ _ c.start.ensures.start.disk.resynced

@@ -6,11 +6,10 @@ use Rattle.command_jobs.proofs.pack.run_pack.Goals as goal
 
 pub returns-in_err-job-clause-refused : goal.returns-in_err-job-clause-refused
 returns-in_err-job-clause-refused g c = told-by c.from_residual.result c.in_err-job.field-0.0
-    (λ (why : BeginFault). (area : Area) (records : List Record)
-    → IsFreshOver c.args.vault area records (g.D.Disk.holds c.args.disk.now) (g.D.Disk.faults c.args.disk.now)
-    → IsPackRefused area records why) c.from_residual.ensures.1
-    (λ area records fresh. pack-refused c.opened_states.ensures c.args.vault area records
-    (g.D.Disk.holds c.args.disk.now) (g.D.Disk.faults c.args.disk.now) fresh c.begin_pack.new.self
+    (λ (why : BeginFault). (area : Area) (records : List Record) → IsFreshOver c.args.vault area records
+    (g.D.Disk.holds c.args.disk.now) (g.D.Disk.faults c.args.disk.now) → IsPackRefused area records why)
+    c.from_residual.ensures.1 (λ area records fresh. pack-refused c.opened_states.ensures c.args.vault area
+    records (g.D.Disk.holds c.args.disk.now) (g.D.Disk.faults c.args.disk.now) fresh c.begin_pack.new.self
     c.in_err-job.field-0.0 c.in_err-job.ensures.begins)
 
 pub loop-next-init : goal.loop-next-init
@@ -59,12 +58,11 @@ loop-next-preserved g c = record {
 }
 
 pub returns-in-Done-clause-ended : goal.returns-in-Done-clause-ended
-returns-in-Done-clause-ended g c = λ records providers old new opened fresh before after.
-    pack-ends c.opened_states.ensures c.args.vault records (g.D.Disk.holds c.args.disk.now)
+returns-in-Done-clause-ended g c = λ records providers old new opened fresh before after. pack-ends
+    c.opened_states.ensures c.args.vault records (g.D.Disk.holds c.args.disk.now)
     (g.D.Disk.faults c.args.disk.now) old new opened fresh c.begin_pack.new.self c.step_pack.new.self
     c.in_ok-job.job c.in-Done.answer providers (g.D.Disk.holds c.step_pack.new.disk)
-    (g.D.Disk.faults c.step_pack.new.disk) c.in_ok-job.ensures.begins
-    (λ w moment stands.
+    (g.D.Disk.faults c.step_pack.new.disk) c.in_ok-job.ensures.begins (λ w moment stands.
     let way = c.loop-next.invariant.way w moment providers stands in
     pack-end w c.in_ok-job.job.number moment c.loop-next.vault c.step_pack.new.self c.loop-next.job _ _
     c.loop-next.invariant.number way c.in-Done.answer
@@ -89,6 +87,4 @@ returns-in-Done-clause-tells g c = c.step_pack.ensures.calls.tells ∙ c.loop-ne
 
 pub returns-in-Done-clause-count : goal.returns-in-Done-clause-count
 returns-in-Done-clause-count g c =
-    let a = c.loop-next.invariant.faults in
-    let b = c.step_pack.ensures.cause.never_falls in
-    omega (arith, a, b)
+    omega (arith, c.loop-next.invariant.faults, c.step_pack.ensures.cause.never_falls)

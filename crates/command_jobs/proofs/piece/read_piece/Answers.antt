@@ -5,8 +5,7 @@ use Rattle.command_jobs.proofs.ReadBytes.{bytes-front, told-on, put-more}
 use Rattle.command_jobs.proofs.piece.read_piece.Goals as goal
 
 pub returns-in_err-given-clause-short : goal.returns-in_err-given-clause-short
-returns-in_err-given-clause-short g c =
-    on_err c.from_residual.result _ (
+returns-in_err-given-clause-short g c = on_err c.from_residual.result _ (
     let m = c.loop-count.invariant.most in
     let t = c.loop-count-test.true in
     let a = c.min-most.ensures in
@@ -29,8 +28,6 @@ pub loop-count-preserved : goal.loop-count-preserved
 loop-count-preserved g c =
     let m = c.loop-count.invariant.most in
     let t = c.loop-count-test.true in
-    let inside : c.loop-count.count ≤ length c.loop-count.stripe = omega (arith, m, t) in
-    let out : length c.read.new.out ≡ c.min-most.result - c.loop-count.count = search rules in
     let few : c.in_ok-given.given ≤ c.min-most.result - c.loop-count.count = search rules in
     let room : length (put_mid c.loop-count.count (c.min-most.result - c.loop-count.count) c.loop-count.stripe
     c.read.new.out) ≡ length c.loop-count.stripe = search rules in
@@ -39,12 +36,11 @@ loop-count-preserved g c =
           c.loop-count.invariant.front c.in_ok-given.ensures.given
           ∙ ap (λ xs. then_told xs (g.S.Source.left c.read.new.self))
           (sym (put-more c.loop-count.count (c.min-most.result - c.loop-count.count) c.in_ok-given.given
-          c.loop-count.stripe c.read.new.out inside out few));
-      few = omega (arith, few, t);
+          c.loop-count.stripe c.read.new.out (omega (arith, m, t)) (search rules) few));
+      few = omega arith;
       most = m ∙ ap (λ n. min n (4194305 - c.args.before)) (sym room);
       room = room ∙ c.loop-count.invariant.room;
-      faults = (let a = c.loop-count.invariant.faults in let b = c.read.ensures.cause.never_falls in
-          omega (arith, a, b));
+      faults = omega (arith, c.loop-count.invariant.faults, c.read.ensures.cause.never_falls);
     }
 
 pub returns-clause-piece : goal.returns-clause-piece

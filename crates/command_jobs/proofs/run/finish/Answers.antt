@@ -15,10 +15,9 @@ loop-ended-init g c = (
 pub step-requires-clause-handed : goal.step-requires-clause-handed
 step-requires-clause-handed g c =
     let u = c.requires.under_way in
-    let way = c.loop-ended.invariant.0 u.start u.state u.kind u.own 0 u.only u.stands in
-    let few = stands-enough c.loop-ended.vault _ _ way.stands in
-    let e = length-map c.loop-ended.providers (provider_seen g.P.Provider) in
-    omega (arith, few, e)
+    let few = stands-enough c.loop-ended.vault _ _ (c.loop-ended.invariant.0 u.start u.state u.kind u.own 0
+    u.only u.stands).stands in
+    omega (arith, few, length-map c.loop-ended.providers (provider_seen g.P.Provider))
 
 pub step-requires-clause-given : goal.step-requires-clause-given
 step-requires-clause-given g c =

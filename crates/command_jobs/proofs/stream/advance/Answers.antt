@@ -23,11 +23,9 @@ loop-vault-init g c = record {
 pub step-requires-clause-handed : goal.step-requires-clause-handed
 step-requires-clause-handed g c =
     let u = c.requires.under_way in
-    let here = c.loop-vault.invariant.went u.start u.state u.kind u.own 0 _
-    (no-steps u.start u.kind u.own u.state 0 c.args.vault.now _ u.only u.stands) in
-    let few = stands-enough c.loop-vault.vault _ _ here.way.stands in
-    let e = length-map c.loop-vault.providers (provider_seen g.P.Provider) in
-    omega (arith, few, e)
+    let few = stands-enough c.loop-vault.vault _ _ (c.loop-vault.invariant.went u.start u.state u.kind u.own 0 _
+    (no-steps u.start u.kind u.own u.state 0 c.args.vault.now _ u.only u.stands)).way.stands in
+    omega (arith, few, length-map c.loop-vault.providers (provider_seen g.P.Provider))
 
 pub returns-then-is_some-clause-went : goal.returns-then-is_some-clause-went
 returns-then-is_some-clause-went g c = λ start w kind own moment d way b.

@@ -9,19 +9,17 @@ use Rattle.command_jobs.proofs.stream.run_stream.Goals as goal
 
 pub returns-in_err-stripe-clause-refused : goal.returns-in_err-stripe-clause-refused
 returns-in_err-stripe-clause-refused g c = told-by c.from_residual.result unbegun.Memory
-    (λ (why : Unbegun). (area : Area) (records : List Record)
-    → IsFreshOver c.args.vault area records (g.D.Disk.holds c.args.disk.now) (g.D.Disk.faults c.args.disk.now)
-    → IsUnbegunOver area records c.args.name.now c.args.profile why (g.S.Source.left c.args.source.now)
-    (g.S.Source.left c.args.source.now))
-    c.from_residual.ensures.1 (λ area records fresh. refl)
+    (λ (why : Unbegun). (area : Area) (records : List Record) → IsFreshOver c.args.vault area records
+    (g.D.Disk.holds c.args.disk.now) (g.D.Disk.faults c.args.disk.now) →
+    IsUnbegunOver area records c.args.name.now c.args.profile why (g.S.Source.left c.args.source.now)
+    (g.S.Source.left c.args.source.now)) c.from_residual.ensures.1 (λ area records fresh. refl)
 
 pub returns-in_err-first-clause-refused : goal.returns-in_err-first-clause-refused
 returns-in_err-first-clause-refused g c = told-by c.from_residual-in_err-first.result unbegun.SourceFault
-    (λ (why : Unbegun). (area : Area) (records : List Record)
-    → IsFreshOver c.args.vault area records (g.D.Disk.holds c.args.disk.now) (g.D.Disk.faults c.args.disk.now)
-    → IsUnbegunOver area records c.args.name.now c.args.profile why (g.S.Source.left c.args.source.now)
-    (g.S.Source.left c.read_piece.new.source))
-    c.from_residual-in_err-first.ensures.1 (λ area records fresh.
+    (λ why. (area : Area) (records : List Record) → IsFreshOver c.args.vault area records
+    (g.D.Disk.holds c.args.disk.now) (g.D.Disk.faults c.args.disk.now) →
+    IsUnbegunOver area records c.args.name.now c.args.profile why (g.S.Source.left c.args.source.now)
+    (g.S.Source.left c.read_piece.new.source)) c.from_residual-in_err-first.ensures.1 (λ area records fresh.
     let room : length c.read_piece.new.stripe ≡ c.stripe_size.result = search rules in
     subst (λ (size : ℕ). ReadsWithin 0 size (g.S.Source.left c.args.source.now)
     (g.S.Source.left c.read_piece.new.source))
@@ -31,12 +29,10 @@ returns-in_err-first-clause-refused g c = told-by c.from_residual-in_err-first.r
 
 pub returns-in_err-number-clause-refused : goal.returns-in_err-number-clause-refused
 returns-in_err-number-clause-refused g c = told-by c.from_residual-in_err-number.result
-    (unbegun.Refused c.in_err-number.field-0.0)
-    (λ (why : Unbegun). (area : Area) (records : List Record)
-    → IsFreshOver c.args.vault area records (g.D.Disk.holds c.args.disk.now) (g.D.Disk.faults c.args.disk.now)
-    → IsUnbegunOver area records c.args.name.now c.args.profile why (g.S.Source.left c.args.source.now)
-    (g.S.Source.left c.read_piece.new.source))
-    c.from_residual-in_err-number.ensures.1 (λ area records fresh.
+    (unbegun.Refused c.in_err-number.field-0.0) (λ (why : Unbegun). (area : Area) (records : List Record) →
+    IsFreshOver c.args.vault area records (g.D.Disk.holds c.args.disk.now) (g.D.Disk.faults c.args.disk.now) →
+    IsUnbegunOver area records c.args.name.now c.args.profile why (g.S.Source.left c.args.source.now)
+    (g.S.Source.left c.read_piece.new.source)) c.from_residual-in_err-number.ensures.1 (λ area records fresh.
     let P = c.in_ok-first.ensures.piece in
     let room : length c.read_piece.new.stripe ≡ c.stripe_size.result = search rules in
     let size : c.stripe_size.result ≡ put_stripe records c.args.profile = c.stripe_size.ensures
@@ -55,11 +51,9 @@ returns-in_err-number-clause-refused g c = told-by c.from_residual-in_err-number
       one = (let a = length-take-le c.in_ok-first.first c.read_piece.new.stripe P.few in let b = P.few in
           omega (arith, a, b, room, size));
       refused = refused-over c.opened_states.ensures c.args.vault area records
-          (g.D.Disk.holds c.args.disk.now) (g.D.Disk.faults c.args.disk.now) fresh
-          c.begin_stream.new.self
+          (g.D.Disk.holds c.args.disk.now) (g.D.Disk.faults c.args.disk.now) fresh c.begin_stream.new.self
           (PutJob c.args.name.now (take c.in_ok-first.first c.read_piece.new.stripe)) c.args.profile
-          c.in_err-number.field-0.0
-          (λ w d moment stands. c.in_err-number.ensures.machine w d moment
+          c.in_err-number.field-0.0 (λ w d moment stands. c.in_err-number.ensures.machine w d moment
           (take c.in_ok-first.first c.read_piece.new.stripe) stands P.read.are_bytes few);
     })
 
@@ -81,10 +75,9 @@ give_all-streamed-requires-clause-first g c =
 pub give_all-streamed-requires-clause-stripe : goal.give_all-streamed-requires-clause-stripe
 give_all-streamed-requires-clause-stripe g c =
     let r = c.requires.ready in
-    let room : length c.deref_mut-2.result.now ≡ c.stripe_size.result = search rules in
     is-stripe c.opened_states.ensures c.args.vault r.area r.records
     (g.D.Disk.holds c.args.disk.now) (g.D.Disk.faults c.args.disk.now) r.fresh c.args.profile _
-    (room ∙ (c.stripe_size.ensures ∙ stripe-over c.opened_states.ensures c.args.vault r.area r.records
+    ((search rules) ∙ (c.stripe_size.ensures ∙ stripe-over c.opened_states.ensures c.args.vault r.area r.records
     (g.D.Disk.holds c.args.disk.now) (g.D.Disk.faults c.args.disk.now) r.fresh
     c.args.profile))
 
@@ -93,13 +86,12 @@ give_all-streamed-requires-clause-begun g c = λ bytes are short.
     let r = c.requires.ready in
     let seen = provider_seen g.P.Provider in
     let few : (setup_in_effect r.records).n ≤ length (map seen c.args.providers.now) =
-    (let a = r.enough in let b = length-map c.args.providers.now seen in omega (arith, a, b)) in
-    let room : length c.deref_mut-2.result.now ≡ c.stripe_size.result = search rules in
+    omega (arith, r.enough, (length-map c.args.providers.now seen)) in
     all-begun c.opened_states.ensures c.args.vault r.area r.records
     (g.D.Disk.holds c.args.disk.now) (g.D.Disk.faults c.args.disk.now) r.fresh
     c.begin_stream.new.self c.args.name.now c.args.profile c.in_ok-number.number _
     (map seen c.args.providers.now) few
-    (room ∙ (c.stripe_size.ensures ∙ stripe-over c.opened_states.ensures c.args.vault r.area r.records
+    ((search rules) ∙ (c.stripe_size.ensures ∙ stripe-over c.opened_states.ensures c.args.vault r.area r.records
     (g.D.Disk.holds c.args.disk.now) (g.D.Disk.faults c.args.disk.now) r.fresh
     c.args.profile))
     (λ bytes are few w d moment stands. c.in_ok-number.ensures.machine w d moment bytes stands are few)
@@ -109,42 +101,34 @@ pub returns-clause-ended : goal.returns-clause-ended
 returns-clause-ended g c = λ records old new opened fresh before after was is.
     let seen = provider_seen g.P.Provider in
     let P = c.in_ok-first.ensures.piece in
-    let len : c.in_ok-stripe.stripe.len ≡ length c.read_piece.new.stripe = search rules in
-    let same : c.deref_mut-2.result.now ≡ c.read_piece.new.stripe = c.deref_mut-2.ensures.value
+    let same = c.deref_mut-2.ensures.value
     ∙ (ap (λ n. take n (c.read_piece.new.stripe ++ drop (length c.read_piece.new.stripe)
-    c.in_ok-stripe.stripe.items)) len ∙ take-append_seam c.read_piece.new.stripe _) in
-    let room : length c.deref_mut-2.result.now ≡ c.stripe_size.result = search rules in
-    let size_is : length c.deref_mut-2.result.now ≡ put_stripe records c.args.profile =
-    room ∙ (c.stripe_size.ensures ∙ stripe-over c.opened_states.ensures c.args.vault opened.area records
+    c.in_ok-stripe.stripe.items)) (search rules) ∙ take-append_seam c.read_piece.new.stripe _) in
+    let size_is =
+    (search rules) ∙ (c.stripe_size.ensures ∙ stripe-over c.opened_states.ensures c.args.vault opened.area
+    records
     (g.D.Disk.holds c.args.disk.now)
     (g.D.Disk.faults c.args.disk.now) fresh c.args.profile) in
-    let S = is-stripe c.opened_states.ensures c.args.vault opened.area records
-    (g.D.Disk.holds c.args.disk.now) (g.D.Disk.faults c.args.disk.now) fresh c.args.profile
-    (length c.deref_mut-2.result.now) size_is in
     streams-over c.opened_states.ensures c.args.vault records (g.D.Disk.holds c.args.disk.now)
     (g.D.Disk.faults c.args.disk.now) old new opened fresh c.begin_stream.new.self
     c.give_all-streamed.new.vault c.args.name.now c.args.profile c.in_ok-number.number
     (length c.deref_mut-2.result.now) (map seen c.args.providers.now)
     (map seen c.give_all-streamed.new.providers) (g.D.Disk.holds c.give_all-streamed.new.disk)
-    (g.D.Disk.faults c.give_all-streamed.new.disk) size_is S.some
+    (g.D.Disk.faults c.give_all-streamed.new.disk) size_is (is-stripe c.opened_states.ensures c.args.vault
+    opened.area records
+    (g.D.Disk.holds c.args.disk.now) (g.D.Disk.faults c.args.disk.now) fresh c.args.profile
+    (length c.deref_mut-2.result.now) size_is).some
     (λ bytes are few w d moment stands. c.in_ok-number.ensures.machine w d moment bytes stands are few)
     (length-map c.give_all-streamed.new.providers seen
     ∙ (c.give_all-streamed.ensures.count ∙ sym (length-map c.args.providers.now seen)))
     before after (g.S.Source.left c.read_piece.new.source)
     (take c.in_ok-first.first c.deref_mut-2.result.now)
-    (subst (λ (o : Option (List ℕ)). ReadsFront o (g.S.Source.left c.read_piece.new.source)
-    (take c.in_ok-first.first c.deref_mut-2.result.now)) (sym was.left_is)
-    (subst (λ xs. ReadsFront (g.S.Source.left c.args.source.now) (g.S.Source.left c.read_piece.new.source)
+    (rw (← was.left_is) at (subst (λ xs. ReadsFront (g.S.Source.left c.args.source.now)
+    (g.S.Source.left c.read_piece.new.source)
     (take c.in_ok-first.first xs)) (sym same) P.read))
     c.told_jobs_leave.ensures c.told_parts_leave.ensures c.give_all-streamed.result
-    (subst (λ (o : Option (List ℕ)). StreamsTo (take c.in_ok-first.first c.deref_mut-2.result.now)
-    (length c.deref_mut-2.result.now) c.begin_stream.new.self
-    (devices_seen g.D.Disk g.P.Provider c.args.disk.now c.args.providers.now) c.give_all-streamed.result
-    c.give_all-streamed.new.vault
-    (devices_seen g.D.Disk g.P.Provider c.give_all-streamed.new.disk c.give_all-streamed.new.providers)
-    (g.S.Source.left c.read_piece.new.source) o) (sym is.left_is) c.give_all-streamed.ensures.went)
+    (rw (← is.left_is) at c.give_all-streamed.ensures.went)
     (λ e. let a = c.in_ok-first.ensures.cause.never_falls in
     let b = c.give_all-streamed.ensures.cause.never_falls in
     subst (λ n. Rose n new.source_faults) (sym was.faults_are)
-    (subst (λ n. Rose (g.S.Source.faults c.args.source.now) n) (sym is.faults_are)
-    (rose-before _ _ _ a b (c.give_all-streamed.ensures.cause.rose e))))
+    (rw (← is.faults_are) at (rose-before _ _ _ a b (c.give_all-streamed.ensures.cause.rose e))))

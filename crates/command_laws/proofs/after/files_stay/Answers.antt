@@ -12,8 +12,8 @@ returns-clause-put c name bytes own records spoilt old new end A done K source t
 
 pub returns-clause-put_in_effect : goal.returns-clause-put_in_effect
 returns-clause-put_in_effect c name bytes own records spoilt old new next end A S source N F tells =
-    put-in-effect name bytes own records spoilt old new next end
-    (put-answers name own old new end A) S source N F tells
+    put-in-effect name bytes own records spoilt old new next end S N F tells
+    (put-answers name own old new end A) source
 
 pub returns-clause-next : goal.returns-clause-next
 returns-clause-next c = next-has

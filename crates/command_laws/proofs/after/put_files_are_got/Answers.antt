@@ -7,9 +7,8 @@ returns-clause-whole x numbers key name bytes spoilt cells a b c d e f first sec
     all-whole numbers key name bytes spoilt cells a b c d e f first second last I P G.0
 
 pub returns-clause-got : goal.returns-clause-got
-returns-clause-got x numbers key name bytes own spoilt a b c d e f first second last I P G =
-    init-put-get numbers key name bytes own spoilt a b c d e f first second last I
-    (put-answers name own c d second P) G.0
+returns-clause-got x numbers key name bytes own spoilt a b c d e f first second last I P G = init-put-get
+    numbers key name bytes own spoilt a b c d e f first second last I (put-answers name own c d second P) G.0
 
 pub returns-clause-again : goal.returns-clause-again
 returns-clause-again x name bytes own records spoilt c d e f second last P G =

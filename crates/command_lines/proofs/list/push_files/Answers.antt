@@ -21,7 +21,6 @@ loop-place-preserved c =
           ∙ ap (λ (size : ℕ). text ++ line (file.name ++ then_number size)) w.from.ensures
           ∙ listed_more files c.args.text.now.items text place file
           (sym w.in-Some.ensures) c.loop-place.invariant)
-      | in_default w ↦ absurd
-          (get_within files place (omega (arith, c.loop-place-test.true, c.count-place-end.ensures))
-          w.in_default.ensures)
+      | in_default w ↦ absurd (get_within files place
+          (omega (arith, c.loop-place-test.true, c.count-place-end.ensures)) w.in_default.ensures)
     ]

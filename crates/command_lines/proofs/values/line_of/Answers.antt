@@ -19,8 +19,7 @@ loop-k-preserved c =
           digits ∙ ap (λ (xs : List ℕ). xs ++ decimal value) (ap string_bytes w.line-is ∙ blank)
           ∙ line_more values before c.loop-k.k value (omega (arith, w.if-k-gt0.true)) c.loop-k-test.true
           c.index-values-k.is c.loop-k.invariant
-      | else-k-gt0 w ↦
-          digits ∙ ap (λ (xs : List ℕ). xs ++ decimal value) (ap string_bytes w.line-is)
+      | else-k-gt0 w ↦ digits ∙ ap (λ (xs : List ℕ). xs ++ decimal value) (ap string_bytes w.line-is)
           ∙ line_first values before c.loop-k.k value (omega (arith, w.if-k-gt0.false)) c.loop-k-test.true
           c.index-values-k.is c.loop-k.invariant
     ]

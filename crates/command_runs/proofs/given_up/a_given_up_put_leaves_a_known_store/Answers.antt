@@ -16,8 +16,7 @@ returns c = let answers = c.a_put_is_given_up.ensures.answers in record {
             (ends 14)) named name own is g
       ];
   known = elim (c.done_commands_leave_known_stores.ensures.cut_put named None four_records
-      (to_put_source long) put_given_up (ends 14) answers refl
-      (old-sure long).known) [
+      (to_put_source long) put_given_up (ends 14) answers refl (old-sure long).known) [
         | inl r ↦ absurd (unrefused r)
         | inr s ↦ s
       ];

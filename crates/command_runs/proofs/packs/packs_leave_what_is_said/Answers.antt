@@ -10,8 +10,7 @@ returns c = let e = c.packs_end.ensures in record {
   packed = λ filling fills. c.packs_end_well.ensures.done _ _ _ (e.pack filling fills) (inl refl);
   told = λ filling fills. c.packs_end_well.ensures.ends_well _ _ _ _ (e.pack filling fills)
       upgraded_kept-sure.known refl never never;
-  in_order = λ filling fills. c.packs_end_well.ensures.ends _ _ _ (e.pack filling fills)
-      never never;
+  in_order = λ filling fills. c.packs_end_well.ensures.ends _ _ _ (e.pack filling fills) never never;
   old_version = c.refusals_are_exact.ensures.pack_only _ _ _ _ refusal.OldVersion e.old_version
       stored-sure.known (λ same. omega (arith, same)) refl;
   refused = c.refusals_are_exact.ensures.pack_always _ _ _ _ refusal.OldVersion e.old_version

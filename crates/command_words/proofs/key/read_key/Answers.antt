@@ -14,8 +14,6 @@ returns-then-not-is_line_end c key form =
 
 -- the digits spell the key
 pub returns : goal.returns
-returns c =
-    key_read (λ (m : Master). m.0) c.args.text.now c.in_ok-digits.digits.now c.in_ok-digits.behind.now
-    c.from_hex.result
-    c.in_ok-digits.ensures.cases (c.is_line_end.ensures.0 (cc)) c.from_hex.ensures.found
+returns c = key_read (λ (m : Master). m.0) c.args.text.now c.in_ok-digits.digits.now c.in_ok-digits.behind.now
+    c.from_hex.result c.in_ok-digits.ensures.cases (c.is_line_end.ensures.0 (cc)) c.from_hex.ensures.found
     c.from_hex.ensures.value

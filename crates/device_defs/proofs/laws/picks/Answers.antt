@@ -7,9 +7,8 @@ pub returns-clause-gives : goal.returns-clause-gives
 returns-clause-gives c = IsImage-picked
 
 pub returns-clause-each : goal.returns-clause-each
-returns-clause-each c =
-    λ cells image is bytes. (
-      picks_for cells image,
-      All-picks_for IsByte cells image bytes,
-      picked-picks_for cells image is,
-    )
+returns-clause-each c = λ cells image is bytes. (
+  picks_for cells image,
+  All-picks_for IsByte cells image bytes,
+  picked-picks_for cells image is,
+)

@@ -13,14 +13,12 @@ loop-i-preserved c =
     elim c.if-marks-i.branch [
       | then-marks-i+then-next-picks w ↦ record {
         within = omega arith;
-        so_far = rw (w.held-is, w.next-is)
-            (picked_place held marks picks c.loop-i.i c.loop-i.next inside same w.if-marks-i.true
-            w.if-next-picks.true ∙ c.loop-i.invariant.so_far);
+        so_far = rw (w.held-is, w.next-is) (picked_place held marks picks c.loop-i.i c.loop-i.next inside same
+            w.if-marks-i.true w.if-next-picks.true ∙ c.loop-i.invariant.so_far);
       }
       | else-marks-i w ↦ record {
         within = omega arith;
-        so_far = rw (w.held-is, w.next-is)
-            (kept_place held marks picks c.loop-i.i c.loop-i.next inside same
+        so_far = rw (w.held-is, w.next-is) (kept_place held marks picks c.loop-i.i c.loop-i.next inside same
             (⊎_elim (λ ended. inr ended.1) (λ unmarked. inl unmarked) w.else-marks-i.either)
             ∙ c.loop-i.invariant.so_far);
       }

@@ -4,10 +4,8 @@ use Rattle.dispersal_code.proofs.Unique.{same_trim}
 use Rattle.dispersal_code.proofs.open.open_row.Goals as goal
 
 pub returns-then-len-need-clause-none : goal.returns-then-len-need-clause-none
-returns-then-len-need-clause-none c =
-    few_present c.args.shape.n c.args.shape.b c.args.shape.l c.args.points.now c.args.seen.now
-    (c.requires.even ∙ c.requires.whole)
-    (omega (
+returns-then-len-need-clause-none c = few_present c.args.shape.n c.args.shape.b c.args.shape.l
+    c.args.points.now c.args.seen.now (c.requires.even ∙ c.requires.whole) (omega (
       arith,
       c.if-len-need.true,
       c.len.ensures.symbols,
@@ -51,8 +49,7 @@ returns-then-agreements-need-clause-accepted c =
     (rw (c.agreements.ensures.count, c.rest.ensures.is, all_points, all_symbols) at c.if-agreements-need.true)
 
 pub returns-then-agreements-need-clause-only : goal.returns-then-agreements-need-clause-only
-returns-then-agreements-need-clause-only c q accepted =
-    (rw c.rest.ensures.is at c.rest.ensures.trimmed) ∙
+returns-then-agreements-need-clause-only c q accepted = (rw c.rest.ensures.is at c.rest.ensures.trimmed) ∙
     same_trim c.args.shape.n c.args.shape.l c.args.shape.b c.args.points.now c.args.seen.now
     c.load.new.self.rest q c.args.shape.fits
     c.requires.apart c.requires.even c.requires.whole
@@ -65,22 +62,21 @@ decode_syndromes-requires-clause-apart c =
     rw is_points (Apart-present c.args.points.now c.args.seen.now c.requires.apart)
 
 pub decode_syndromes-requires-clause-enough : goal.decode_syndromes-requires-clause-enough
-decode_syndromes-requires-clause-enough c =
-    omega (
-      arith,
-      c.args.shape.fits,
-      c.from-keep.ensures,
-      c.from-need.ensures,
-      c.if-len-need.false,
-      c.len.ensures.symbols,
-      c.len-2.ensures.symbols,
-      c.len-2.ensures.points,
-      ap length c.symbols-3.ensures,
-      ap (λ (x : Chosen). length x.points) c.present_of-present.ensures,
-      present-le c.args.points.now c.args.seen.now,
-      c.requires.even,
-      c.requires.whole,
-    )
+decode_syndromes-requires-clause-enough c = omega (
+  arith,
+  c.args.shape.fits,
+  c.from-keep.ensures,
+  c.from-need.ensures,
+  c.if-len-need.false,
+  c.len.ensures.symbols,
+  c.len-2.ensures.symbols,
+  c.len-2.ensures.points,
+  ap length c.symbols-3.ensures,
+  ap (λ (x : Chosen). length x.points) c.present_of-present.ensures,
+  present-le c.args.points.now c.args.seen.now,
+  c.requires.even,
+  c.requires.whole,
+)
 
 pub returns-in_err-decode_syndromes-clause-none : goal.returns-in_err-decode_syndromes-clause-none
 returns-in_err-decode_syndromes-clause-none c =

@@ -14,10 +14,7 @@ returns c = record {
         3,
         inl refl,
         refl,
-        inr (inl (
-          (λ on. on),
-          inr (inr (2, inl refl, refl, inr (inr (1, inl refl, refl, inl tt)))),
-        )),
+        inr (inl ((λ on. on), inr (inr (2, inl refl, refl, inr (inr (1, inl refl, refl, inl tt)))))),
       )),
     )),
     refl,

@@ -3,8 +3,7 @@ use Rattle.second_half_laws.specs.Sharp.{GivesOrIsLost}
 use Rattle.epoch_laws.proofs.laws.gets_give_what_stood.Goals as goal
 
 pub returns : goal.returns
-returns c limit mark start ms gaps b g get name how h G =
-    (let all = gaps ++ b ∷ ms in
+returns c limit mark start ms gaps b g get name how h G = (let all = gaps ++ b ∷ ms in
     let q = ended_of_kind limit start gaps ms g b (GetJob name) get how h.clean h.run (inl G.begin_event) G.begun
     G.none G.end_event G.ended in
     let job = q.0 in

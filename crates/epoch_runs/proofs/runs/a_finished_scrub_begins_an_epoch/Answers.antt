@@ -10,8 +10,7 @@ use Rattle.epoch_runs.proofs.Swept.{older, recent, later, recent-is, is-swept, r
 use Rattle.epoch_runs.proofs.runs.a_finished_scrub_begins_an_epoch.Goals as goal
 
 pub returns : goal.returns
-returns c =
-    (let laws = c.scrubs_begin_epochs.ensures in
+returns c = (let laws = c.scrubs_begin_epochs.ensures in
     let split = ap (λ (l : List Moment). later ++ l) recent-is in
     let run_all = subst (IsRun 8 set_up) split run in
     let run_old = subst (IsRun 8 set_up) recent-is run_swept in

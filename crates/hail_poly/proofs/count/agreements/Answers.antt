@@ -18,6 +18,5 @@ loop-k-preserved c =
     ]
 
 pub returns-clause-count : goal.returns-clause-count
-returns-clause-count c =
-    agree_end c.args.coefficients.now c.args.points.now c.args.values.now c.loop-k.k c.loop-k.count
-    c.loop-k-test.false c.loop-k.invariant.sum
+returns-clause-count c = agree_end c.args.coefficients.now c.args.points.now c.args.values.now c.loop-k.k
+    c.loop-k.count c.loop-k-test.false c.loop-k.invariant.sum

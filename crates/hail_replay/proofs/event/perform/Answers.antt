@@ -16,8 +16,7 @@ returns-in-Init g c =
         machine = λ start ms told R. once (Init (with_master c.in-Init.setup c.in-Init.master.0))
             (Some (came.Inited c.init.result)) _ _ _ _
             (λ w moment T. c.init.ensures.machine w ps moment told T) (λ w es T. refl) start ms R;
-        kept = init-kept _ _ _ _ _ ps c.init.ensures.called.tells
-            c.init.ensures.called.cause.never_falls
+        kept = init-kept _ _ _ _ _ ps c.init.ensures.called.tells c.init.ensures.called.cause.never_falls
             (c.init.ensures.standing ps) c.requires.standing;
       });
     }
@@ -114,8 +113,7 @@ returns-in-Step g c =
           (λ w moment T. (c.step.ensures.machine w moment T).makes) c.step.ensures.heard
           (λ none. (let n = c.step.ensures.no_job none in (
             n.0,
-            ap₂ (λ disk ps. devices (g.D.Disk.holds disk) (g.D.Disk.faults disk) (map see ps)) n.1
-                n.2,
+            ap₂ (λ disk ps. devices (g.D.Disk.holds disk) (g.D.Disk.faults disk) (map see ps)) n.1 n.2,
           ))));
     }
 
@@ -125,22 +123,19 @@ returns-in-Run g c = record { performed = performed-as _ _ _ _ _ _ _ c.in-Run.is
 pub returns-in-Alter : goal.returns-in-Alter
 returns-in-Alter g c =
     record {
-      performed = performed-as _ _ _ _ _ _ _ c.in-Alter.is
-          (replaced (Alter c.in-Alter.provider c.in-Alter.object c.in-Alter.stripe c.in-Alter.place
-          c.in-Alter.symbol) _ _ _ _ _ c.alter.result
-          (λ w u h. replaces_if w _ c.in-Alter.provider
+      performed = performed-as _ _ _ _ _ _ _ c.in-Alter.is (replaced
+          (Alter c.in-Alter.provider c.in-Alter.object c.in-Alter.stripe c.in-Alter.place c.in-Alter.symbol) _
+          _ _ _ _ c.alter.result (λ w u h. replaces_if w _ c.in-Alter.provider
           (λ held. HasPlace (held c.in-Alter.object c.in-Alter.stripe) c.in-Alter.place)
           (with_symbol c.in-Alter.object c.in-Alter.stripe c.in-Alter.place c.in-Alter.symbol)
-          (replace_outcome c.alter.result) u h)
-          (λ w es. refl) c.alter.ensures.machine c.requires.standing);
+          (replace_outcome c.alter.result) u h) (λ w es. refl) c.alter.ensures.machine c.requires.standing);
     }
 
 pub returns-in-Lose : goal.returns-in-Lose
 returns-in-Lose g c =
     record {
-      performed = performed-as _ _ _ _ _ _ _ c.in-Lose.is
-          (replaced (Lose c.in-Lose.provider c.in-Lose.object c.in-Lose.stripe) _ _ _ _ _ c.lose.result
-          (λ w u h. replaces_if w _ c.in-Lose.provider
+      performed = performed-as _ _ _ _ _ _ _ c.in-Lose.is (replaced (Lose c.in-Lose.provider c.in-Lose.object
+          c.in-Lose.stripe) _ _ _ _ _ c.lose.result (λ w u h. replaces_if w _ c.in-Lose.provider
           (λ held. IsSome (held c.in-Lose.object c.in-Lose.stripe))
           (without_block c.in-Lose.object c.in-Lose.stripe) (replace_outcome c.lose.result) u h)
           (λ w es. refl) c.lose.ensures.machine c.requires.standing);

@@ -7,8 +7,7 @@ unfolding trial_commands opening epoch last_epoch losses cut
 count number = refl
 
 pub returns : goal.returns
-returns c ms text told =
-    told.text_is
+returns c ms text told = told.text_is
     ∙ ap (λ (n : ℕ). trial_lines c.args.number
     (record (counts_of (trial_bytes c.args.number) [] ms) { events = n }))
     (length-reverse (trial_commands c.args.number) ∙ count c.args.number)

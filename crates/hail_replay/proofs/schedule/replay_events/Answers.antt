@@ -4,33 +4,28 @@ use Rattle.hail_replay.proofs.Loops.{begin-course, go-on, go-wrong, go-short, go
 use Rattle.hail_replay.proofs.schedule.replay_events.Goals as goal
 
 pub loop-event-init : goal.loop-event-init
-loop-event-init g c =
-    (begin-course _ _ _ _ _ _ _ (ap commands_of c.into_iter-left.ensures.rest) c.requires.nothing
-    c.requires.fresh)
+loop-event-init g c = (begin-course _ _ _ _ _ _ _ (ap commands_of c.into_iter-left.ensures.rest)
+    c.requires.nothing c.requires.fresh)
 
 pub returns-then-is_err-clause-runs : goal.returns-then-is_err-clause-runs
 returns-then-is_err-clause-runs g c =
     (go-short _ _ _ _ _ _ _ _ _ _ _ c.reserve.ensures.same c.loop-event.invariant.1)
 
 pub returns-then-status-ne-WRITTEN-clause-runs : goal.returns-then-status-ne-WRITTEN-clause-runs
-returns-then-status-ne-WRITTEN-clause-runs g c =
-    (go-wrong _ _ _ (event_command c.in-Some.event) _ _ _ _ _ _ _ _ _ _ _ _ _ _ _
-    (ap commands_of c.in-Some.ensures.items) c.reserve.ensures.same c.loop-event.invariant
+returns-then-status-ne-WRITTEN-clause-runs g c = (go-wrong _ _ _ (event_command c.in-Some.event) _ _ _ _ _ _ _
+    _ _ _ _ _ _ _ _ (ap commands_of c.in-Some.ensures.items) c.reserve.ensures.same c.loop-event.invariant
     c.replay_event-status.ensures.kept c.replay_event-status.ensures.goes_on
-    c.replay_event-status.ensures.count
-    (λ e. (let n = c.if-status-ne-WRITTEN.true in omega (arith, n, e))))
+    c.replay_event-status.ensures.count (λ e. (let n = c.if-status-ne-WRITTEN.true in omega (arith, n, e))))
 
 pub loop-event-preserved : goal.loop-event-preserved
-loop-event-preserved g c =
-    go-on _ _ _ (event_command c.in-Some.event) _ _ _ _ _ _ _ _ _ _ _ _ _ _ _
+loop-event-preserved g c = go-on _ _ _ (event_command c.in-Some.event) _ _ _ _ _ _ _ _ _ _ _ _ _ _ _
     (ap commands_of c.in-Some.ensures.items) c.reserve.ensures.same c.loop-event.invariant
     c.replay_event-status.ensures.kept c.replay_event-status.ensures.goes_on
     c.replay_event-status.ensures.count (let n = c.if-status-ne-WRITTEN.false in omega (arith, n))
 
 pub returns-clause-runs : goal.returns-clause-runs
 returns-clause-runs g c =
-    (go-home _ _ _ _ _ _ _ _ _ _
-    (ap commands_of (nil_from_length (into_iter_items c.loop-event.left)
+    (go-home _ _ _ _ _ _ _ _ _ _ (ap commands_of (nil_from_length (into_iter_items c.loop-event.left)
     (let n = c.in_default.ensures.cases.0 in let m = c.loop-event.left.rest.ok.0 in
     omega (arith, n, m)))) c.loop-event.invariant.1)
 

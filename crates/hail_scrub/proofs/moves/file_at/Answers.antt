@@ -9,6 +9,5 @@ returns-in-Some-clause-at c = λ off.
     (slice_get_read c.args.items.now _ c.args.place c.in-Some.item.now refl h.3.0 h.1)
 
 pub returns-in-None-clause-at : goal.returns-in-None-clause-at
-returns-in-None-clause-at c = λ off.
-    files_end c.args.providers c.args.items.now off c.args.place
+returns-in-None-clause-at c = λ off. files_end c.args.providers c.args.items.now off c.args.place
     c.in-None.ensures.lookup.3

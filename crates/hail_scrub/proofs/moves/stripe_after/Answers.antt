@@ -3,14 +3,12 @@ use Rattle.hail_scrub.proofs.Rests.{stripe_found, stripes_end}
 use Rattle.hail_scrub.proofs.moves.stripe_after.Goals as goal
 
 pub returns-then-spot-clause-at : goal.returns-then-spot-clause-at
-returns-then-spot-clause-at c = λ off.
-    stripe_found c.args.providers c.args.items.now off c.args.spot c.requires.items c.requires.spot
-    c.if-spot.true
+returns-then-spot-clause-at c = λ off. stripe_found c.args.providers c.args.items.now off c.args.spot
+    c.requires.items c.requires.spot c.if-spot.true
 
 pub returns-clause-at : goal.returns-clause-at
-returns-clause-at c = λ off.
-    stripes_end c.args.providers c.args.items.now off c.args.spot c.file_at.result c.if-spot.false
-    (c.file_at.ensures.at off)
+returns-clause-at c = λ off. stripes_end c.args.providers c.args.items.now off c.args.spot c.file_at.result
+    c.if-spot.false (c.file_at.ensures.at off)
 
 pub overflow_add-spot-2 : goal.overflow_add-spot-2
 overflow_add-spot-2 c =

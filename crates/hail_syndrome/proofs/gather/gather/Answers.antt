@@ -22,9 +22,8 @@ loop-k-preserved c =
             values_are = value_kept f c.args.points.now c.args.values.now c.loop-k.seen
                 (sound_values nim f c.args.points.now c.args.values.now) c.loop-k.k c.loop-k.count
                 c.index-points-k.result w.index-values-k.result (omega arith) c.requires.even
-                (omega (arith, i.bound)) read
-                (get_or_read c.args.values.now c.loop-k.k w.index-values-k.result
-                (omega arith) w.index-values-k.is 0) some i.values_are;
+                (omega (arith, i.bound)) read (get_or_read c.args.values.now c.loop-k.k
+                w.index-values-k.result (omega arith) w.index-values-k.is 0) some i.values_are;
           })
       | else-not-is_zero w ↦
           let none : value f c.index-points-k.result ≡ 0 = sym c.factor_at.ensures
@@ -36,16 +35,14 @@ loop-k-preserved c =
                 (omega arith) read none i.points_are;
             values_are = value_passed f c.args.points.now c.args.values.now
                 (take c.loop-k.count c.loop-k.seen) (sound_values nim f c.args.points.now c.args.values.now)
-                c.loop-k.k
-                c.index-points-k.result (omega arith) c.requires.even read none i.values_are;
+                c.loop-k.k c.index-points-k.result (omega arith) c.requires.even read none i.values_are;
           })
     ]
 
 pub returns-clause-points : goal.returns-clause-points
-returns-clause-points c =
-    points_end c.args.work.now.factor c.args.points.now (take c.loop-k.count c.loop-k.sound)
-    (sound_points nim c.args.work.now.factor c.args.points.now) c.loop-k.k (omega arith)
-    c.loop-k.invariant.points_are
+returns-clause-points c = points_end c.args.work.now.factor c.args.points.now
+    (take c.loop-k.count c.loop-k.sound) (sound_points nim c.args.work.now.factor c.args.points.now)
+    c.loop-k.k (omega arith) c.loop-k.invariant.points_are
 
 pub returns-clause-values : goal.returns-clause-values
 returns-clause-values c =

@@ -15,9 +15,8 @@ loop-k-preserved c =
     record {
       power = c.mul-term.ensures ∙ ap (λ t. nim_mul t c.args.x) i.power
           ∙ power_more c.args.c c.args.x c.loop-k.k;
-      done = rw c.add.ensures
-          (place_more c.args.out.now c.loop-k.out c.args.c c.args.x c.loop-k.k c.index-out-k.result
-          c.loop-k.term (omega arith)
+      done = rw c.add.ensures (place_more c.args.out.now c.loop-k.out c.args.c c.args.x c.loop-k.k
+          c.index-out-k.result c.loop-k.term (omega arith)
           (get_or_read c.loop-k.out c.loop-k.k c.index-out-k.result (omega arith) c.index-out-k.is 0) i.power
           i.done i.left);
       left = place_left c.args.out.now c.loop-k.out c.loop-k.k c.add.result i.left;

@@ -3,8 +3,7 @@ use Rattle.hail_syndrome.proofs.SyndromeSteps.{sum_past, sum_more, syndromes_by_
 use Rattle.hail_syndrome.proofs.syndrome.syndromes.Goals as goal
 
 pub loop-place-init : goal.loop-place-init
-loop-place-init c = λ k h.
-    ap (λ o. get_or o k 0) (c.fill.ensures.after (λ y e. e))
+loop-place-init c = λ k h. ap (λ o. get_or o k 0) (c.fill.ensures.after (λ y e. e))
     ∙ get_or-replicate (length c.args.out.now) k 0 0 (omega (arith, c.fill.ensures.len)) ∙
     sym (sum_past (λ x. nim_mul (multiplier x c.args.points.now) (nim_pow x k)) c.args.points.now
     c.args.values.now (length c.args.points.now) (omega arith))

@@ -21,9 +21,7 @@ returns-in-Ok-clause-answers g c = λ left rest faults later R.
     })
 
 pub returns-in-Err-BadLine-clause-answers : goal.returns-in-Err-BadLine-clause-answers
-returns-in-Err-BadLine-clause-answers g c = λ left rest faults later R.
-    answers.bad_line c.args.text.now c.in-Err-BadLine.number R
-    (let a = c.if-text-gt-LONGEST.false in omega (arith, a))
-    (rw c.in-Err-BadLine.field-0-is at c.in-Err-BadLine.ensures.bad)
-    (undone 19 c.in-Err-BadLine.number _ _ _ (rw c.in-Err-BadLine.field-0-is at c.at.ensures) refl refl refl
-    refl)
+returns-in-Err-BadLine-clause-answers g c = λ left rest faults later R. answers.bad_line c.args.text.now
+    c.in-Err-BadLine.number R (let a = c.if-text-gt-LONGEST.false in omega (arith, a))
+    (rw c.in-Err-BadLine.field-0-is at c.in-Err-BadLine.ensures.bad) (undone 19 c.in-Err-BadLine.number _ _ _
+    (rw c.in-Err-BadLine.field-0-is at c.at.ensures) refl refl refl refl)

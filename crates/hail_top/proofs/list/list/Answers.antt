@@ -17,6 +17,5 @@ returns-in-Ok-clause-answers g c providers left count handed =
 
 pub returns-in-Err-clause-answers : goal.returns-in-Err-clause-answers
 returns-in-Err-clause-answers g c providers left count handed =
-    unstarted (unopened-told _ _ _ c.in-Err.why c.args.handed c.unopened.ensures
-    (sym handed) c.in-Err.ensures.refused c.in-Err.ensures.disk
-    refl refl)
+    unstarted (unopened-told _ _ _ c.in-Err.why c.args.handed c.unopened.ensures (sym handed)
+    c.in-Err.ensures.refused c.in-Err.ensures.disk refl refl)

@@ -3,12 +3,10 @@ use Rattle.hail_top.proofs.AnswerTexts.{front-none}
 use Rattle.hail_top.proofs.list.write_files.Goals as goal
 
 pub returns-in-Ok-clause-written : goal.returns-in-Ok-clause-written
-returns-in-Ok-clause-written g c = λ records folds.
-    rw (
-      c.as_slice.ensures,
-      c.in-Ok.ensures.records records
-          (rw c.table.ensures folds),
-    ) at c.write_text.ensures.writes
+returns-in-Ok-clause-written g c = λ records folds. rw (
+  c.as_slice.ensures,
+  c.in-Ok.ensures.records records (rw c.table.ensures folds),
+) at c.write_text.ensures.writes
 
 pub returns-in-Err-clause-written : goal.returns-in-Err-clause-written
 returns-in-Err-clause-written g c = λ records folds.

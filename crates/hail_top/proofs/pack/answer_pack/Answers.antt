@@ -19,8 +19,7 @@ returns-in-Err-clause-over g c records old providers left count opened fresh bef
 
 pub returns-in-Ok-clause-around : goal.returns-in-Ok-clause-around
 returns-in-Ok-clause-around g c records old opened fresh was_synced =
-    written
-    (told-around (other_area opened.area) (packed records) (FillsGap c.in-Ok.answer)
+    written (told-around (other_area opened.area) (packed records) (FillsGap c.in-Ok.answer)
     (ZerosUnlessFault c.packed.result.status)
     (told-zeros c.in-Ok.answer c.packed.result.status _ _ c.packed.ensures.told) old.disk _
     (c.in-Ok.ensures.around opened.area records old.disk fresh was_synced))

@@ -17,9 +17,8 @@ returns-in-Ok-clause-answers g c providers left count handed =
 
 pub returns-in-Err-clause-answers : goal.returns-in-Err-clause-answers
 returns-in-Err-clause-answers g c providers left count handed =
-    unstarted (unopened-told _ _ _ c.in-Err.why c.args.handed c.unopened.ensures
-    (sym handed) c.in-Err.ensures.refused c.in-Err.ensures.disk
-    refl refl)
+    unstarted (unopened-told _ _ _ c.in-Err.why c.args.handed c.unopened.ensures (sym handed)
+    c.in-Err.ensures.refused c.in-Err.ensures.disk refl refl)
 
 pub returns-in-Ok-clause-around : goal.returns-in-Ok-clause-around
 returns-in-Ok-clause-around g c providers left count handed =

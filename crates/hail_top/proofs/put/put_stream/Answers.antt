@@ -11,9 +11,8 @@ returns-then-is_unknown-clause-over g c records old opened fresh before was_sync
 pub returns-in-Ok-clause-over : goal.returns-in-Ok-clause-over
 returns-in-Ok-clause-over g c records old opened fresh before was_synced source source_count sink sink_count =
     streamed-put c.args.name.now c.args.profile records old _ _ c.in-Ok.how _ _ sink sink_count opened
-    (sym c.is_unknown.ensures ∙ c.if-is_unknown.false)
-    (c.in-Ok.ensures.ended records old _ opened fresh before
-    (record { disk = refl; faults = refl; providers = refl })
+    (sym c.is_unknown.ensures ∙ c.if-is_unknown.false) (c.in-Ok.ensures.ended records old _ opened fresh
+    before (record { disk = refl; faults = refl; providers = refl })
     (record { left_is = source; faults_are = source_count }) (record { left_is = refl; faults_are = refl }))
     c.streamed.ensures.told
 

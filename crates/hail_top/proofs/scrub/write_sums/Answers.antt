@@ -10,7 +10,6 @@ returns-in-Err-clause-written g c =
     let told = g.K.Sink.written c.args.sink.now in
     inr (inr (
       refl,
-      front-none told told
-          (scrub_lines c.args.stripes (take c.args.providers c.args.symbols.now)
+      front-none told told (scrub_lines c.args.stripes (take c.args.providers c.args.symbols.now)
           (take c.args.providers c.args.blocks.now)) refl,
     ))

@@ -5,9 +5,8 @@ pub returns-in-Some-clause-usage : goal.returns-in-Some-clause-usage
 returns-in-Some-clause-usage g c = λ disk disk_faults none. absurd (none _ c.in-Some.ensures)
 
 pub returns-in-Some-clause-serves : goal.returns-in-Some-clause-serves
-returns-in-Some-clause-serves g c = λ disk disk_faults number is.
-    answered-serve c.args.words.now _ number _ _ _ _ c.in-Some.ensures
-    (c.serve_at-end.ensures.answers disk disk_faults) c.served.ensures is
+returns-in-Some-clause-serves g c = λ disk disk_faults number is. answered-serve c.args.words.now _ number _ _
+    _ _ c.in-Some.ensures (c.serve_at-end.ensures.answers disk disk_faults) c.served.ensures is
 
 pub returns-in-Some-clause-counts : goal.returns-in-Some-clause-counts
 returns-in-Some-clause-counts g c = c.serve_at-end.ensures.counts

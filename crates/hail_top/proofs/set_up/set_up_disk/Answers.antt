@@ -9,10 +9,9 @@ returns-in-Ok-clause-answers g c providers left left' count count' =
     c.write_text.ensures.writes c.in-Ok.ensures.set_up.ok refl
 
 pub returns-in-Err-clause-answers : goal.returns-in-Err-clause-answers
-returns-in-Err-clause-answers g c providers left left' count count' =
-    not_set_up-told (with_master c.args.setup.now c.args.master.now.0) _ _ _ c.in-Err.fault
-    c.not_set_up.ensures c.in-Err.ensures.set_up.refused c.in-Err.ensures.set_up.looked
-    c.in-Err.ensures.set_up.left
+returns-in-Err-clause-answers g c providers left left' count count' = not_set_up-told
+    (with_master c.args.setup.now c.args.master.now.0) _ _ _ c.in-Err.fault c.not_set_up.ensures
+    c.in-Err.ensures.set_up.refused c.in-Err.ensures.set_up.looked c.in-Err.ensures.set_up.left
     (λ same. c.in-Err.ensures.called.cause.rose (ap (λ (f : InitFault). Err f) same)) refl refl
 
 pub returns-in-Ok-clause-goes_on : goal.returns-in-Ok-clause-goes_on

@@ -17,23 +17,20 @@ returns-in-Put-clause-answers g c =
     (λ o. command_of (kind.Put c.in-Put.name o)) refl (λ p. refl) _ _ _ c.put.ensures.answers)
 
 pub returns-in-Get-clause-answers : goal.returns-in-Get-clause-answers
-returns-in-Get-clause-answers g c =
-    answered _ _ _ _ _ c.in-Get.is (
-      c.alone.ensures.answers (g.S.Source.left c.args.source.now) (g.S.Source.faults c.args.source.now),
-      (refl, refl),
-    )
+returns-in-Get-clause-answers g c = answered _ _ _ _ _ c.in-Get.is (
+  c.alone.ensures.answers (g.S.Source.left c.args.source.now) (g.S.Source.faults c.args.source.now),
+  (refl, refl),
+)
 
 pub returns-in-Get-clause-counts : goal.returns-in-Get-clause-counts
 returns-in-Get-clause-counts g c =
     c.alone.ensures.counts (g.S.Source.left c.args.source.now) (g.S.Source.faults c.args.source.now)
 
 pub returns-in-Drop-clause-answers : goal.returns-in-Drop-clause-answers
-returns-in-Drop-clause-answers g c =
-    answered _ _ _ _ _ c.in-Drop.is (
-      c.alone-in-Drop.ensures.answers (g.S.Source.left c.args.source.now)
-          (g.S.Source.faults c.args.source.now),
-      (refl, refl),
-    )
+returns-in-Drop-clause-answers g c = answered _ _ _ _ _ c.in-Drop.is (
+  c.alone-in-Drop.ensures.answers (g.S.Source.left c.args.source.now) (g.S.Source.faults c.args.source.now),
+  (refl, refl),
+)
 
 pub returns-in-Drop-clause-counts : goal.returns-in-Drop-clause-counts
 returns-in-Drop-clause-counts g c =
@@ -49,24 +46,20 @@ returns-in-List-clause-answers g c =
     )
 
 pub returns-in-Audit-clause-answers : goal.returns-in-Audit-clause-answers
-returns-in-Audit-clause-answers g c =
-    answered _ _ _ _ _ c.in-Audit.is (
-      c.alone-in-Audit.ensures.answers (g.S.Source.left c.args.source.now)
-          (g.S.Source.faults c.args.source.now),
-      (refl, refl),
-    )
+returns-in-Audit-clause-answers g c = answered _ _ _ _ _ c.in-Audit.is (
+  c.alone-in-Audit.ensures.answers (g.S.Source.left c.args.source.now) (g.S.Source.faults c.args.source.now),
+  (refl, refl),
+)
 
 pub returns-in-Audit-clause-counts : goal.returns-in-Audit-clause-counts
 returns-in-Audit-clause-counts g c =
     c.alone-in-Audit.ensures.counts (g.S.Source.left c.args.source.now) (g.S.Source.faults c.args.source.now)
 
 pub returns-in-Repair-clause-answers : goal.returns-in-Repair-clause-answers
-returns-in-Repair-clause-answers g c =
-    answered _ _ _ _ _ c.in-Repair.is (
-      c.alone-in-Repair.ensures.answers (g.S.Source.left c.args.source.now)
-          (g.S.Source.faults c.args.source.now),
-      (refl, refl),
-    )
+returns-in-Repair-clause-answers g c = answered _ _ _ _ _ c.in-Repair.is (
+  c.alone-in-Repair.ensures.answers (g.S.Source.left c.args.source.now) (g.S.Source.faults c.args.source.now),
+  (refl, refl),
+)
 
 pub returns-in-Repair-clause-counts : goal.returns-in-Repair-clause-counts
 returns-in-Repair-clause-counts g c =
@@ -82,8 +75,7 @@ pub returns-in-Row-clause-inits : goal.returns-in-Row-clause-inits
 returns-in-Row-clause-inits g c = inits-as _ _ _ _ _ c.in-Row.is tt
 
 pub returns-in-Put-clause-inits : goal.returns-in-Put-clause-inits
-returns-in-Put-clause-inits g c =
-    inits-as _ _ _ _ _ c.in-Put.is (put-inits c.in-Put.name.now c.in-Put.profile
+returns-in-Put-clause-inits g c = inits-as _ _ _ _ _ c.in-Put.is (put-inits c.in-Put.name.now c.in-Put.profile
     (λ o. command_of (kind.Put c.in-Put.name o)) refl (λ p. refl) _ _ _)
 
 pub returns-in-Get-clause-inits : goal.returns-in-Get-clause-inits
@@ -102,12 +94,11 @@ pub returns-in-Repair-clause-inits : goal.returns-in-Repair-clause-inits
 returns-in-Repair-clause-inits g c = inits-as _ _ _ _ _ c.in-Repair.is tt
 
 pub returns-in-Upgrade-clause-answers : goal.returns-in-Upgrade-clause-answers
-returns-in-Upgrade-clause-answers g c =
-    answered _ _ _ _ _ c.in-Upgrade.is (
-      c.alone-in-Upgrade.ensures.answers (g.S.Source.left c.args.source.now)
-          (g.S.Source.faults c.args.source.now),
-      (refl, refl),
-    )
+returns-in-Upgrade-clause-answers g c = answered _ _ _ _ _ c.in-Upgrade.is (
+  c.alone-in-Upgrade.ensures.answers (g.S.Source.left c.args.source.now)
+      (g.S.Source.faults c.args.source.now),
+  (refl, refl),
+)
 
 pub returns-in-Upgrade-clause-counts : goal.returns-in-Upgrade-clause-counts
 returns-in-Upgrade-clause-counts g c =
@@ -117,11 +108,10 @@ pub returns-in-Upgrade-clause-inits : goal.returns-in-Upgrade-clause-inits
 returns-in-Upgrade-clause-inits g c = inits-as _ _ _ _ _ c.in-Upgrade.is tt
 
 pub returns-in-Scrub-clause-answers : goal.returns-in-Scrub-clause-answers
-returns-in-Scrub-clause-answers g c =
-    answered _ _ _ _ _ c.in-Scrub.is (
-      c.scrub.ensures.answers (g.S.Source.left c.args.source.now) (g.S.Source.faults c.args.source.now),
-      (refl, refl),
-    )
+returns-in-Scrub-clause-answers g c = answered _ _ _ _ _ c.in-Scrub.is (
+  c.scrub.ensures.answers (g.S.Source.left c.args.source.now) (g.S.Source.faults c.args.source.now),
+  (refl, refl),
+)
 
 pub returns-in-Scrub-clause-counts : goal.returns-in-Scrub-clause-counts
 returns-in-Scrub-clause-counts g c =
@@ -170,8 +160,7 @@ pub returns-in-Scrub-clause-packs : goal.returns-in-Scrub-clause-packs
 returns-in-Scrub-clause-packs g c = packs-as _ _ _ _ _ c.in-Scrub.is tt
 
 pub returns-in-Put-clause-packs : goal.returns-in-Put-clause-packs
-returns-in-Put-clause-packs g c =
-    packs-as _ _ _ _ _ c.in-Put.is (put-packs c.in-Put.name.now c.in-Put.profile
+returns-in-Put-clause-packs g c = packs-as _ _ _ _ _ c.in-Put.is (put-packs c.in-Put.name.now c.in-Put.profile
     (λ o. command_of (kind.Put c.in-Put.name o)) refl (λ p. refl) _ _ _)
 
 pub returns-in-Pack-clause-packs : goal.returns-in-Pack-clause-packs

@@ -6,8 +6,7 @@ use Rattle.job_laws.proofs.Complete.{drop-end}
 use Rattle.job_laws.proofs.files.drops_end_well.Goals as goal
 
 pub returns : goal.returns
-returns c w new moment name answer heard O spelled r disk =
-    (let f = drop-has 8 w name r.begins.1 in
+returns c w new moment name answer heard O spelled r disk = (let f = drop-has 8 w name r.begins.1 in
     drop-end (ran_from w new heard) name answer
     (drop-leaves w new name answer heard O
     (job-ends w new moment (DropJob name) None answer heard O spelled (MayName.none refl) r) f.0

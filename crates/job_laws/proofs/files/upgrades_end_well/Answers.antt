@@ -7,5 +7,4 @@ use Rattle.job_laws.proofs.files.upgrades_end_well.Goals as goal
 pub returns : goal.returns
 returns c w new moment answer heard O r disk = upgrade-end (ran_from w new heard) answer
     (upgrade-leaves w new answer heard O
-    (job-ends w new moment UpgradeJob None answer heard O tt (MayName.none refl) r)).by_kind.0
-    disk
+    (job-ends w new moment UpgradeJob None answer heard O tt (MayName.none refl) r)).by_kind.0 disk

@@ -16,5 +16,4 @@ pub returns-clause-text : goal.returns-clause-text
 returns-clause-text c = λ k below. all-firm (text four_set_up) 8 (suc k) k (omega arith)
 
 pub returns-clause-stands : goal.returns-clause-stands
-returns-clause-stands c =
-    read-firm (text four_set_up) A four_set_up (text-active four_set_up refl)
+returns-clause-stands c = read-firm (text four_set_up) A four_set_up (text-active four_set_up refl)

@@ -10,8 +10,7 @@ pub returns-clause-accepted : goal.returns-clause-accepted
 returns-clause-accepted c = (refl, (refl, (refl, (refl, (refl, (refl, (refl, (refl, tt))))))))
 
 pub returns-clause-left : goal.returns-clause-left
-returns-clause-left c = λ image of.
-    inl (firm-image A raised (firm (text raised)) image
+returns-clause-left c = λ image of. inl (firm-image A raised (firm (text raised)) image
     (read-firm (text raised) A raised (text-active raised refl)) of)
 
 pub returns-clause-packs : goal.returns-clause-packs

@@ -1,7 +1,6 @@
-use Rattle.machine_defs.proofs.Words.{◌≡◌, sym, subst, Given, blocks_given, Entry, given_to, HoldsForgery}
+use Rattle.machine_defs.proofs.Words.{◌≡◌, sym, Entry, given_to, HoldsForgery}
 use Rattle.std.proofs.Common.{List, ℕ}
 use Rattle.column_defs.specs.Objects.{Object}
-use Rattle.column_defs.specs.Forgeries.{IsForgery}
 use Rattle.machine_defs.proofs.Reports.{stays}
 use Rattle.machine_defs.proofs.laws.reports_have_what_jobs_heard.Goals as goal
 
@@ -11,8 +10,7 @@ same_forgery : (o : Object) (bytes : List ℕ) (k : ℕ) (xs ys : List Entry) �
 same_forgery o bytes k xs ys same h = record {
   stripe = h.stripe;
   place = h.place;
-  forgery = subst (λ (g : List Given). IsForgery o bytes (blocks_given g o.shape.n o.id) h.stripe h.place)
-      same h.forgery;
+  forgery = rw same at h.forgery;
 }
 
 pub returns-clause-given : goal.returns-clause-given

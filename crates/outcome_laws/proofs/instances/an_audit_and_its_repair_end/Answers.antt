@@ -5,8 +5,7 @@ use Rattle.outcome_laws.proofs.instances.an_audit_and_its_repair_end.Goals as go
 -- up to the audit's end
 to_audit : (older ms : List Moment) → (h : IsMended older ms) → IsRun 8 set_up ms →
     IsRun 8 set_up (h.audit_end ∷ (h.auditing ++ h.audit_begin ∷ older))
-to_audit older ms h run =
-    (let tail = h.audit_end ∷ (h.auditing ++ h.audit_begin ∷ older) in
+to_audit older ms h run = (let tail = h.audit_end ∷ (h.auditing ++ h.audit_begin ∷ older) in
     run_back 8 set_up h.between tail
     (run_back 8 set_up h.repairing (h.repair_begin ∷ (h.between ++ tail))
     (subst (IsRun 8 set_up) h.split run).2).2)

@@ -14,7 +14,6 @@ returns-then-receive_all-clause-told g c = λ b kind tail e due size none.
 pub returns-else-receive_all-clause-told : goal.returns-else-receive_all-clause-told
 returns-else-receive_all-clause-told g c = λ b kind tail e due size none.
     let first = c.in_ok-kind.ensures.told b kind tail e due in
-    let same : c.in_ok-kind.kind ≡ kind = (let h = first.0 in cc) in
-    let one : kind ≡ 1 = sym same ∙ c.if-kind-ne-DONE.false in
-    let came = c.receive_all.ensures.told (record b { due = tail }) first.1 (omega (arith, size one)) in
-    absurd (let h = sym came.0 ∙ c.if-receive_all.false in cc h)
+    let one = sym (let h = first.0 in cc) ∙ c.if-kind-ne-DONE.false in
+    absurd (let h = sym (c.receive_all.ensures.told (record b { due = tail }) first.1
+    (omega (arith, size one))).0 ∙ c.if-receive_all.false in cc h)

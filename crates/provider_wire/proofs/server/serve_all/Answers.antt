@@ -1,7 +1,6 @@
-use Rattle.provider_wire.proofs.Words.{◌≡◌, ◌+◌, ◌-◌, [], take, drop, false, refl, sym, ap, ◌∙◌, subst, le_trans, arith, take_rest, SpellsNoRequest, is_bad_request}
-use Rattle.provider_wire.proofs.Progress.{starts, nothing_spells, source_failed, most_and_one_fits, no_more_than_most, less_to_read, read_more, few_read, read_fits, waited_before, beyond_waits, bytes_size, front_waits, front_is_there, rest_was_read, finished_at, stopped_at, write_failed, went_on, bad_at, too_long, rest_waits, rest_is_short}
-use Rattle.provider_wire.specs.declared.end.ServeEnd.TheVariants as serve_end
-use Rattle.provider_wire.proofs.Causes.{no_fault, last_part, no_source_fault, no_sink_fault, after_is_no_source_fault, sink_failed}
+use Rattle.provider_wire.proofs.Words.{◌≡◌, ◌-◌, [], take, drop, false, refl, sym, ap, ◌∙◌, subst, le_trans, arith, take_rest, SpellsNoRequest, is_bad_request}
+use Rattle.provider_wire.proofs.Progress.{starts, nothing_spells, source_failed, read_fits, waited_before, beyond_waits, bytes_size, front_waits, front_is_there, rest_was_read, finished_at, stopped_at, write_failed, went_on, bad_at, too_long, rest_waits, rest_is_short}
+use Rattle.provider_wire.proofs.Causes.{no_fault, last_part, after_is_no_source_fault, sink_failed}
 use Rattle.provider_wire.proofs.server.serve_all.Goals as goal
 
 pub loop-count-init : goal.loop-count-init
@@ -20,10 +19,10 @@ loop-count-init g c =
 -- sizes, in the order of the code
 
 pub overflow_add-fill : goal.overflow_add-fill
-overflow_add-fill g c = most_and_one_fits
+overflow_add-fill g c = record { fits = omega arith }
 
 pub overflow_sub-taken : goal.overflow_sub-taken
-overflow_sub-taken g c = no_more_than_most c.loop-count.invariant.within
+overflow_sub-taken g c = omega (arith, c.loop-count.invariant.within)
 
 pub overflow_sub-result : goal.overflow_sub-result
 overflow_sub-result g c =
@@ -68,7 +67,7 @@ skip-requires g c =
     c.saturating_sub.ensures c.as_slice.ensures c.in-Ok-serve_front.ensures.within
 
 pub loop-count-smaller : goal.loop-count-smaller
-loop-count-smaller g c = less_to_read c.loop-count.invariant.within c.if-count-eq0.false
+loop-count-smaller g c = omega (arith, c.loop-count.invariant.within, c.if-count-eq0.false)
 
 -- what was served at each end
 
@@ -94,12 +93,8 @@ returns-then-count-eq0-clause-served g c =
 pub returns-in-Err-serve_front-clause-served : goal.returns-in-Err-serve_front-clause-served
 returns-in-Err-serve_front-clause-served g c =
     let inv = c.loop-count.invariant in
-    let given = c.in-Ok.ensures.given in
-    let w = c.len-waiting.result - c.saturating_sub.result in
-    write_failed _ _ (c.loop-count.taken + c.in-Ok.count) w c.fill.new.self
-    (take w c.as_slice.result.now) _ _ _ _ _ _ c.in-Err-serve_front.fault c.fault_end.result
-    (read_more _ inv.so_far given inv.within c.len-waiting.ensures) (ap (take w) c.as_slice.ensures)
-    (few_read _ inv.so_far given inv.within c.len-waiting.ensures) c.fault_end.ensures
+    write_failed _ inv.so_far c.in-Ok.ensures.given inv.within c.len-waiting.ensures c.saturating_sub.ensures
+    c.as_slice.ensures c.in-Err-serve_front.fault c.fault_end.result c.fault_end.ensures
     c.in-Err-serve_front.ensures.err
 
 pub returns-then-is_bad-clause-served : goal.returns-then-is_bad-clause-served
@@ -108,7 +103,7 @@ returns-then-is_bad-clause-served g c =
     let served = c.in-Ok-serve_front.ensures in
     let bytes = take (c.len-waiting.result - c.saturating_sub.result) c.as_slice.result.now in
     bad_at _ inv.so_far c.in-Ok.ensures.given inv.within c.len-waiting.ensures c.saturating_sub.ensures
-    c.as_slice.ensures c.if-count-eq0.false served.within served.ok
+    c.as_slice.ensures served.within served.ok
     (ap is_bad_request (sym (take_rest bytes c.in-Ok-serve_front.done)) ∙ sym c.is_bad.ensures
     ∙ c.if-is_bad.true)
 
@@ -118,7 +113,7 @@ returns-then-taken-gt-MOST-clause-served g c =
     let served = c.in-Ok-serve_front.ensures in
     let bytes = take (c.len-waiting.result - c.saturating_sub.result) c.as_slice.result.now in
     too_long _ inv.so_far c.in-Ok.ensures.given inv.within c.len-waiting.ensures c.saturating_sub.ensures
-    c.as_slice.ensures c.if-count-eq0.false served.within served.ok c.if-taken-gt-MOST.true served.none
+    c.as_slice.ensures served.within served.ok c.if-taken-gt-MOST.true served.none
     (ap is_bad_request (sym (take_rest bytes c.in-Ok-serve_front.done)) ∙ sym c.is_bad.ensures
     ∙ c.if-is_bad.false)
 
@@ -134,11 +129,10 @@ loop-count-preserved g c =
     ∙ sym c.is_bad.ensures ∙ c.if-is_bad.false in
     let rest : drop done bytes ≡ c.skip.new.self =
     rest_waits _ inv.so_far given inv.within c.len-waiting.ensures c.saturating_sub.ensures c.as_slice.ensures
-    c.if-count-eq0.false served.within served.ok few ∙ sym c.skip.ensures in
+    served.within served.ok few ∙ sym c.skip.ensures in
     record {
-      so_far = rw c.skip.ensures
-          (went_on _ inv.so_far given inv.within c.len-waiting.ensures c.saturating_sub.ensures
-          c.as_slice.ensures c.if-count-eq0.false served.within served.ok);
+      so_far = rw c.skip.ensures (went_on _ inv.so_far given inv.within c.len-waiting.ensures
+          c.saturating_sub.ensures c.as_slice.ensures served.within served.ok);
       within = few;
       none = subst SpellsNoRequest rest served.none;
       fine = ap is_bad_request (sym rest) ∙ fine;
@@ -154,26 +148,21 @@ returns-in-Err-clause-source g c =
     last_part c.loop-count.invariant.source_count c.in-Err.ensures.cause (λ _. refl)
 
 pub returns-in-Err-clause-sink : goal.returns-in-Err-clause-sink
-returns-in-Err-clause-sink g c =
-    no_fault c.loop-count.invariant.sink_count (no_sink_fault serve_end.SourceFault refl)
+returns-in-Err-clause-sink g c = no_fault c.loop-count.invariant.sink_count (λ e. cc e)
 
 pub returns-then-waiting-eq0-clause-source : goal.returns-then-waiting-eq0-clause-source
 returns-then-waiting-eq0-clause-source g c =
-    no_fault (le_trans c.loop-count.invariant.source_count c.fill.ensures.cause.never_falls)
-    (no_source_fault serve_end.Done refl)
+    no_fault (le_trans c.loop-count.invariant.source_count c.fill.ensures.cause.never_falls) (λ e. cc e)
 
 pub returns-then-waiting-eq0-clause-sink : goal.returns-then-waiting-eq0-clause-sink
-returns-then-waiting-eq0-clause-sink g c =
-    no_fault c.loop-count.invariant.sink_count (no_sink_fault serve_end.Done refl)
+returns-then-waiting-eq0-clause-sink g c = no_fault c.loop-count.invariant.sink_count (λ e. cc e)
 
 pub returns-then-count-eq0-clause-source : goal.returns-then-count-eq0-clause-source
 returns-then-count-eq0-clause-source g c =
-    no_fault (le_trans c.loop-count.invariant.source_count c.fill.ensures.cause.never_falls)
-    (no_source_fault (serve_end.BadFrame _) refl)
+    no_fault (le_trans c.loop-count.invariant.source_count c.fill.ensures.cause.never_falls) (λ e. cc e)
 
 pub returns-then-count-eq0-clause-sink : goal.returns-then-count-eq0-clause-sink
-returns-then-count-eq0-clause-sink g c =
-    no_fault c.loop-count.invariant.sink_count (no_sink_fault (serve_end.BadFrame _) refl)
+returns-then-count-eq0-clause-sink g c = no_fault c.loop-count.invariant.sink_count (λ e. cc e)
 
 pub returns-in-Err-serve_front-clause-source : goal.returns-in-Err-serve_front-clause-source
 returns-in-Err-serve_front-clause-source g c =
@@ -187,20 +176,16 @@ returns-in-Err-serve_front-clause-sink g c =
 
 pub returns-then-is_bad-clause-source : goal.returns-then-is_bad-clause-source
 returns-then-is_bad-clause-source g c =
-    no_fault (le_trans c.loop-count.invariant.source_count c.fill.ensures.cause.never_falls)
-    (no_source_fault (serve_end.BadFrame _) refl)
+    no_fault (le_trans c.loop-count.invariant.source_count c.fill.ensures.cause.never_falls) (λ e. cc e)
 
 pub returns-then-is_bad-clause-sink : goal.returns-then-is_bad-clause-sink
 returns-then-is_bad-clause-sink g c =
-    no_fault (le_trans c.loop-count.invariant.sink_count c.serve_front.ensures.cause.never_falls)
-    (no_sink_fault (serve_end.BadFrame _) refl)
+    no_fault (le_trans c.loop-count.invariant.sink_count c.serve_front.ensures.cause.never_falls) (λ e. cc e)
 
 pub returns-then-taken-gt-MOST-clause-source : goal.returns-then-taken-gt-MOST-clause-source
 returns-then-taken-gt-MOST-clause-source g c =
-    no_fault (le_trans c.loop-count.invariant.source_count c.fill.ensures.cause.never_falls)
-    (no_source_fault serve_end.TooLong refl)
+    no_fault (le_trans c.loop-count.invariant.source_count c.fill.ensures.cause.never_falls) (λ e. cc e)
 
 pub returns-then-taken-gt-MOST-clause-sink : goal.returns-then-taken-gt-MOST-clause-sink
 returns-then-taken-gt-MOST-clause-sink g c =
-    no_fault (le_trans c.loop-count.invariant.sink_count c.serve_front.ensures.cause.never_falls)
-    (no_sink_fault serve_end.TooLong refl)
+    no_fault (le_trans c.loop-count.invariant.sink_count c.serve_front.ensures.cause.never_falls) (λ e. cc e)

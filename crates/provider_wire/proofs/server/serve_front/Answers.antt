@@ -1,4 +1,4 @@
-use Rattle.provider_wire.proofs.Words.{◌+◌, List, ℕ, ap, ◌∙◌, subst, le_trans, arith, take_rest, told_then, TakesFront, SpellsNoRequest, request_of}
+use Rattle.provider_wire.proofs.Words.{◌+◌, List, ℕ, ap, ◌∙◌, subst, le_trans, arith, take_rest, told_then, TakesFront, request_of}
 use Rattle.provider_wire.proofs.Served.{serves_none, serves_more, serves_part, if_err, no_value, within_rest, nearer, short_rest}
 use Rattle.provider_wire.proofs.Causes.{no_fault, not_failed}
 use Rattle.provider_wire.proofs.server.serve_front.Goals as goal
@@ -25,8 +25,7 @@ loop-request-preserved g c =
     record {
       within = within_rest bytes at size inv.within c.in-Some.ensures.size;
       so_far = serves_more bytes at size (request_of c.in-Some.request) _ _ _ _ _ _ c.answer-answer.result
-          inv.so_far
-          (rw (take_rest bytes at) at c.in-Some.ensures.found) c.answer-answer.ensures
+          inv.so_far (rw (take_rest bytes at) at c.in-Some.ensures.found) c.answer-answer.ensures
           (c.in_ok-write_all.ensures.ok
           ∙ ap (told_then (g.K.Sink.written c.loop-request.sink)) c.as_slice-bytes.ensures);
       count = le_trans inv.count c.write_all.ensures.cause.never_falls;
@@ -52,15 +51,13 @@ returns-in_err-write_all-clause-err g c =
     let at = c.loop-request.at in
     let size = c.in-Some.size in
     let inv = c.loop-request.invariant in
-    let front : TakesFront (g.K.Sink.written c.loop-request.sink)
-    (g.K.Sink.written c.write_all.new.sink) c.answer-answer.result =
-    subst (λ (l : List ℕ). TakesFront (g.K.Sink.written c.loop-request.sink)
-    (g.K.Sink.written c.write_all.new.sink) l) c.as_slice-bytes.ensures c.in_err-write_all.ensures.err in
     if_err c.from_residual.result _ (
       at + size,
       within_rest bytes at size inv.within c.in-Some.ensures.size,
       serves_part bytes at size (request_of c.in-Some.request) _ _ _ _ _ _ c.answer-answer.result inv.so_far
-          (rw (take_rest bytes at) at c.in-Some.ensures.found) c.answer-answer.ensures front,
+          (rw (take_rest bytes at) at c.in-Some.ensures.found) c.answer-answer.ensures
+          (subst (λ (l : List ℕ). TakesFront (g.K.Sink.written c.loop-request.sink)
+          (g.K.Sink.written c.write_all.new.sink) l) c.as_slice-bytes.ensures c.in_err-write_all.ensures.err),
     )
 
 -- no request is there
@@ -72,8 +69,7 @@ pub returns-clause-ok : goal.returns-clause-ok
 returns-clause-ok g c = c.loop-request.invariant.so_far
 
 pub returns-clause-none : goal.returns-clause-none
-returns-clause-none g c =
-    subst SpellsNoRequest (take_rest c.args.bytes.now c.loop-request.at) c.in_default.ensures.none
+returns-clause-none g c = rw (take_rest c.args.bytes.now c.loop-request.at) at c.in_default.ensures.none
 
 pub returns-clause-short : goal.returns-clause-short
 returns-clause-short g c = short_rest c.args.bytes.now c.loop-request.at c.in_default.ensures.short

@@ -11,9 +11,8 @@ loop-i-preserved c =
     (omega arith) c.in_ok-number.ensures c.loop-i.invariant)
 
 pub returns-in_err-number : goal.returns-in_err-number
-returns-in_err-number c = rw c.from_residual.ensures
-    (ends (take c.loop-i.i c.loop-i.out) (length c.args.out.now) c.loop-i.i c.loop-i.rest.now
-    (numbers_at (length c.args.out.now) c.args.bytes.now)
+returns-in_err-number c = rw c.from_residual.ensures (ends (take c.loop-i.i c.loop-i.out)
+    (length c.args.out.now) c.loop-i.i c.loop-i.rest.now (numbers_at (length c.args.out.now) c.args.bytes.now)
     (omega arith) c.in_err-number.ensures c.loop-i.invariant)
 
 pub returns : goal.returns

@@ -20,9 +20,8 @@ returns-clause-run c = (
 )
 
 pub returns-clause-half : goal.returns-clause-half
-returns-clause-half c =
-    (let all : Headline set_up scrubbed_moments =
-    headline 8 set_up scrubbed_moments is_scrubbed.goes.clean is_scrubbed.goes.run in (
+returns-clause-half c = (let all : Headline set_up scrubbed_moments = headline 8 set_up scrubbed_moments
+    is_scrubbed.goes.clean is_scrubbed.goes.run in (
       scrubbed_moments,
       is_scrubbed,
       all.scrub_calm_gets_end_well (λ j. refl) is_scrubbed.calm,

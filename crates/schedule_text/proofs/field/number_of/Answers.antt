@@ -7,6 +7,5 @@ returns-in-Ok c = number_in-match c.in-Ok.text.now c.read_number.result c.read_n
     ∙ ap (λ (text : List ℕ). number_in text) c.in-Ok.ensures.cases.0
 
 pub returns-in-Err : goal.returns-in-Err
-returns-in-Err c = sym
-    (number_in-none c.args.word.now
+returns-in-Err c = sym (number_in-none c.args.word.now
     (λ number is. c.in-Err.ensures.cases.0 (number_word-IsUtf8 c.args.word.now number is)))

@@ -9,8 +9,8 @@ returns-in_err-number-clause-read c =
     let some : 0 < length left = grind (arith, nat_tests) in
     let word = words-left c.args.line.now left c.without_spaces.ensures.same c.without_spaces.ensures.front
     some in
-    profile-fails (λ x. (x.0, words x.1.now)) c.from_residual.result c.in_err-number.field-0.0
-    (words c.args.line.now) word.0 word.1 word.2 c.from_residual.ensures.1 c.in_err-number.ensures.read
+    profile-fails (words c.args.line.now) word.0 word.1 word.2 (λ x. (x.0, words x.1.now))
+    c.from_residual.result c.in_err-number.field-0.0 c.from_residual.ensures.1 c.in_err-number.ensures.read
 
 pub returns-clause-read : goal.returns-clause-read
 returns-clause-read c =
@@ -18,5 +18,5 @@ returns-clause-read c =
     let some : 0 < length left = grind (arith, nat_tests) in
     let word = words-left c.args.line.now left c.without_spaces.ensures.same c.without_spaces.ensures.front
     some in
-    profile-reads (words c.args.line.now) word.0 word.1 c.in_ok-number.number
-    (words c.in_ok-number.left.now) word.2 c.in_ok-number.ensures.read
+    profile-reads (words c.args.line.now) word.0 word.1 word.2 c.in_ok-number.number
+    (words c.in_ok-number.left.now) c.in_ok-number.ensures.read

@@ -1,11 +1,11 @@
-use Rattle.server_code.proofs.Words.{◌≡◌, ◌∷◌, [], ◌-◌, ◌∙◌, List, ℕ, ap, subst, length, arith, range_with_len, length-range_with_len, vanish, interpolate, trim}
-use Rattle.server_code.proofs.BehindSteps.{behind_apart}
+use Rattle.server_code.proofs.Words.{◌≡◌, ◌∷◌, [], ◌-◌, ◌∙◌, List, ℕ, sym, ap, subst, length, arith, range_with_len, length-range_with_len, Apart-range, vanish, interpolate, trim}
+use Rattle.algebra_laws.specs.Field.{Apart}
 use Rattle.server_code.proofs.behind.load_within.Goals as goal
 
 pub load-requires-clause-apart : goal.load-requires-clause-apart
 load-requires-clause-apart c =
     let p = c.args.tables.now.profile in
-    behind_apart c.points_behind.result.now p.keep (p.size - p.keep) c.points_behind.ensures
+    subst (λ (ps : List ℕ). Apart ps) (sym c.points_behind.ensures) (Apart-range p.keep (p.size - p.keep))
 
 pub load-requires-clause-even : goal.load-requires-clause-even
 load-requires-clause-even c =

@@ -5,8 +5,7 @@ use Rattle.server_code.proofs.behind.multiply_points.Goals as goal
 pub loop-place-init : goal.loop-place-init
 loop-place-init c = record {
   long = refl;
-  product =
-      λ x. points_start c.args.items.now c.args.count c.args.keep x;
+  product = λ x. points_start c.args.items.now c.args.count c.args.keep x;
 }
 
 pub loop-place-preserved : goal.loop-place-preserved

@@ -15,8 +15,7 @@ returns-clause-short c =
     )
 
 pub returns-clause-product : goal.returns-clause-product
-returns-clause-product c = λ x.
-    ap (λ (w : Registers). value w.rest x) c.set_rest.ensures ∙
+returns-clause-product c = λ x. ap (λ (w : Registers). value w.rest x) c.set_rest.ensures ∙
     rest_product c.args.work.now.rest c.args.items.now c.put_front.new.into c.multiply_points.new.items
     (vanish (upto c.args.keep)) (length c.rest-count.result.now) c.args.keep
     (ap length c.rest-count.ensures.is) (rw c.rest.ensures.is at c.put_front.ensures)

@@ -10,8 +10,7 @@ unwrap-requires c =
     grind (arith, common_steps, no, c.inv.ensures.zero)
 
 pub returns : goal.returns
-returns c =
-    ap (λ t. nim_mul t (value (vanish (upto c.args.keep)) c.args.x)) c.mul.ensures ∙
+returns c = ap (λ t. nim_mul t (value (vanish (upto c.args.keep)) c.args.x)) c.mul.ensures ∙
     share_is c.args.difference (value (vanish (upto c.args.keep)) c.args.x) c.unwrap.result
     c.product_of_gaps-product.result c.product_of_gaps-product.ensures
     (rw c.unwrap.ensures at c.inv.ensures.product)

@@ -17,8 +17,7 @@ loop-k-preserved c =
         arith,
         c.loop-k.invariant.count,
         differences_step c.args.a.now c.args.b.now c.loop-k.k c.index-a-k.result c.index-b-k.result
-            c.difference-count.result
-            (omega arith) (omega arith) read_a read_b c.difference-count.ensures,
+            c.difference-count.result (omega arith) (omega arith) read_a read_b c.difference-count.ensures,
       );
     }
 

@@ -1,15 +1,11 @@
-use Rattle.server_code.proofs.Words.{◌≡◌, refl, arith, ◌∷◌, [], value_over, product, nim_mul, nim_add, upto, values_at, profile_of, IsCodeword}
+use Rattle.server_code.proofs.Words.{refl, arith, ◌∷◌, [], value_over, product, nim_mul, nim_add, profile_of, IsCodeword}
 use Rattle.server_code.proofs.Clean.{codeword_zero}
 use Rattle.server_code.proofs.laws.ones_are_a_codeword.Goals as goal
 
--- the values of 1
-ones : 1 ∷ 1 ∷ 1 ∷ 1 ∷ 1 ∷ 1 ∷ [] ≡ values_at (upto 6) (1 ∷ [])
-unfolding value_over nim_mul nim_add product
-ones = refl
-
--- so they are a codeword
+-- the values of 1 are a codeword
 is_codeword : IsCodeword (profile_of 0) (1 ∷ 1 ∷ 1 ∷ 1 ∷ 1 ∷ 1 ∷ [])
-is_codeword = record { polynomial = 1 ∷ []; degree = omega arith; values = ones }
+unfolding value_over nim_mul nim_add product
+is_codeword = record { polynomial = 1 ∷ []; degree = omega arith; values = refl }
 
 pub returns-clause-codeword : goal.returns-clause-codeword
 returns-clause-codeword c = is_codeword

@@ -18,7 +18,6 @@ returns c =
     let gives = c.gets_tell_what_stands.ensures.right name other records honest old new end A known theirs
     steady (omega (arith, few)) ok in (
       gives,
-      other-bytes old.sink new.sink bytes other tells differ gives
-          (c.gets_give_the_file.ensures.forged name bytes records theirs.file old new end A known
-          theirs.in_effect are (same ∙ theirs.size) ok),
+      other-bytes old.sink new.sink bytes other tells differ gives (c.gets_give_the_file.ensures.forged name
+          bytes records theirs.file old new end A known theirs.in_effect are (same ∙ theirs.size) ok),
     ))

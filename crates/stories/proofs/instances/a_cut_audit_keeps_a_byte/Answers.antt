@@ -1,9 +1,8 @@
-use Rattle.stories.proofs.Words.{◌≡◌, ℕ, List, [], ◌∷◌, String, None, Global, refl, inl, arith, digits, More, Stopped, start-tells, AllTell, none_hold, named, byte, IsReplayForm, opening, before_text, first_state, IsToldReplay, cut_text, cut_steps, cut_commands, cut_outcomes, behind_cut, cut_end, four_given}
+use Rattle.stories.proofs.Words.{◌≡◌, ℕ, List, [], ◌∷◌, String, None, Global, refl, inl, arith, digits, More, Stopped, named, byte, IsReplayForm, opening, before_text, first_state, IsToldReplay, cut_text, cut_steps, cut_commands, cut_outcomes, behind_cut, cut_end, four_given}
 use Rattle.machine_defs.specs.Jobs.{AuditJob}
 use Rattle.stories.specs.Words.{Begin, Begun, Got, Opened}
-use Rattle.stories.proofs.Asked.{none-tell}
 use Rattle.stories.proofs.CutReplay.{spelled, cut-replayed}
-use Rattle.stories.proofs.ToldBy.{told-by}
+use Rattle.stories.proofs.ToldBy.{tells, told-by}
 use Rattle.stories.proofs.instances.a_cut_audit_keeps_a_byte.Goals as goal
 
 told : (words : List (String Global)) → IsReplayForm words →
@@ -11,9 +10,6 @@ told : (words : List (String Global)) → IsReplayForm words →
 unfolding digits
 told = told-by cut_text cut_commands cut_outcomes behind_cut (four_given 3) cut-replayed (assumption) spelled refl refl
     refl (tt, (omega arith, (tt, (tt, (tt, (omega arith, (tt, (omega arith, (tt, tt)))))))))
-
-tells : AllTell first_state
-tells = start-tells none_hold none-tell
 
 pub returns : goal.returns
 returns c = record {

@@ -1,13 +1,10 @@
-use Rattle.stories.proofs.Words.{ℕ, List, [], ◌∷◌, ◌++◌, None, refl, inl, inr, Dropped, Listed, Names, DropJob, Touches, AreOverFor, done_by, ByScrubs, start-tells, Ended, Once, AllTell, none_hold, named, byte, opening, before_text, first_state, other_byte, third, second_file, put_cut, put_cut_outcomes, got_cut, got_cut_outcomes, dropped_behind, dropped_outcomes, listed_text, listed_commands, listed_outcomes, behind_listed, listed_end}
+use Rattle.stories.proofs.Words.{ℕ, List, [], ◌∷◌, ◌++◌, None, refl, inl, inr, Dropped, Listed, Names, DropJob, Touches, AreOverFor, done_by, ByScrubs, Ended, Once, named, byte, opening, before_text, first_state, other_byte, third, second_file, put_cut, put_cut_outcomes, got_cut, got_cut_outcomes, dropped_behind, dropped_outcomes, listed_text, listed_commands, listed_outcomes, behind_listed, listed_end}
 use Rattle.stories.specs.Words.{Got, Opened, Put, Begin, Begun}
 use Rattle.stories.specs.Files.{put_of}
 use Rattle.stories.specs.Replays.{second}
-use Rattle.stories.proofs.Asked.{none-tell}
 use Rattle.stories.proofs.ListedReplay.{told, only-other, not-second, not-named, no-third}
+use Rattle.stories.proofs.ToldBy.{tells}
 use Rattle.stories.proofs.instances.a_cut_put_is_told.Goals as goal
-
-tells : AllTell first_state
-tells = start-tells none_hold none-tell
 
 -- the first get is over, and before it the store was opened again
 over : (name ran : List ℕ) → AreOverFor (Touches name) ran got_cut got_cut_outcomes

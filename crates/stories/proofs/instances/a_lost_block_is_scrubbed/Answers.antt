@@ -1,9 +1,8 @@
-use Rattle.stories.proofs.Words.{◌≡◌, List, [], ◌∷◌, ◌++◌, String, None, Global, refl, inl, arith, digits, Scrubbed, done_by, ByScrubs, start-tells, Ended, Once, RunJob, AllTell, none_hold, named, byte, called_behind, IsReplayForm, opening, before_text, first_state, IsToldReplay, damaged2, damaged0, lost2, lost0, put_lost, put_lost_outcomes, symbols_off, blocks_off, swept_text, swept_commands, swept_outcomes, behind_swept, swept_end, three_given}
+use Rattle.stories.proofs.Words.{◌≡◌, List, [], ◌∷◌, ◌++◌, String, None, Global, refl, inl, arith, digits, Scrubbed, done_by, ByScrubs, Ended, Once, RunJob, named, byte, IsReplayForm, opening, before_text, first_state, IsToldReplay, damaged2, damaged0, lost2, lost0, put_lost, put_lost_outcomes, symbols_off, blocks_off, swept_text, swept_commands, swept_outcomes, behind_swept, swept_end, three_given}
 use Rattle.machine_defs.specs.Events.{BeginScrub, Replaced}
 use Rattle.stories.specs.Words.{Got, Opened, Begin, Begun, GetJob}
-use Rattle.stories.proofs.Asked.{none-tell}
 use Rattle.stories.proofs.SweptReplay.{spelled, swept-replayed}
-use Rattle.stories.proofs.ToldBy.{told-by, ones-few}
+use Rattle.stories.proofs.ToldBy.{tells, told-by, ones-few}
 use Rattle.stories.proofs.instances.a_lost_block_is_scrubbed.Goals as goal
 
 told : (words : List (String Global)) → IsReplayForm words →
@@ -13,9 +12,6 @@ unfolding digits
 told = told-by swept_text swept_commands swept_outcomes behind_swept (three_given 3) swept-replayed (assumption) spelled
     refl refl refl
     (tt, (omega arith, (tt, (omega arith, (omega arith, (tt, (tt, (omega arith, (tt, tt)))))))))
-
-tells : AllTell first_state
-tells = start-tells none_hold none-tell
 
 epochs : ByScrubs (damaged0 ∷ damaged2 ∷ []) swept_commands swept_outcomes
 epochs = ByScrubs.swept damaged0 (damaged2 ∷ []) (RunJob 3 ∷ Once (Begin (GetJob named)) ∷ lost0) put_lost

@@ -1,8 +1,7 @@
-use Rattle.stories.proofs.Words.{◌≡◌, ℕ, List, [], ◌∷◌, String, None, Global, refl, inl, arith, digits, start-tells, filling-of, AllTell, none_hold, named, byte, IsFilling, IsReplayForm, opening, before_text, first_state, IsToldReplay, packed_text, packed_commands, packed_outcomes, behind_packed, packed_end, four_given}
+use Rattle.stories.proofs.Words.{◌≡◌, ℕ, List, [], ◌∷◌, String, None, Global, refl, inl, arith, digits, filling-of, named, byte, IsFilling, IsReplayForm, opening, before_text, first_state, IsToldReplay, packed_text, packed_commands, packed_outcomes, behind_packed, packed_end, four_given}
 use Rattle.stories.specs.Words.{Got, Opened}
-use Rattle.stories.proofs.Asked.{none-tell}
 use Rattle.stories.proofs.PackedReplay.{spelled, packed-replayed}
-use Rattle.stories.proofs.ToldBy.{told-by}
+use Rattle.stories.proofs.ToldBy.{tells, told-by}
 use Rattle.stories.proofs.instances.a_packed_byte_is_told.Goals as goal
 
 told : (words : List (String Global)) (filling : List ℕ) → IsReplayForm words → IsFilling filling →
@@ -12,9 +11,6 @@ unfolding digits
 told words filling form fills = told-by packed_text packed_commands packed_outcomes (behind_packed filling) (four_given 4)
     (packed-replayed filling fills) (assumption) spelled refl refl refl
     (tt, (omega arith, (omega arith, (omega arith, (tt, (omega arith, (tt, (omega arith, (tt, tt))))))))) words form
-
-tells : AllTell first_state
-tells = start-tells none_hold none-tell
 
 pub returns : goal.returns
 returns c = record {

@@ -5,9 +5,8 @@ use Rattle.stories.proofs.laws.commands_leave_devices.Goals as goal
 
 pub returns : goal.returns
 returns c = record {
-  stores = λ words command start ms old new end answers form opens told left.
-      (let H = c.commands_are_runs.ensures.call start ms command old new end left.run
-      (record {
+  stores = λ words command start ms old new end answers form opens told left. (let H
+      = c.commands_are_runs.ensures.call start ms command old new end left.run (record {
         sound = c.runs_are_sound.ensures 8 start ms (omega arith, omega arith) left.starts left.run;
         tells = told;
         images = left.devices.images;

@@ -19,11 +19,8 @@ returns c =
     (tt, before)) in
     record {
       got = G;
-      whole = λ how few put_begun put_ended get_begun get_ended.
-          c.stored_files_are_got.ensures.ends 8 (λ moments. 0) start (G.before ++ called_behind start ms)
-          G.gaps G.begin G.last g name
-          bytes how
+      whole = λ how few put_begun put_ended get_begun get_ended. c.stored_files_are_got.ensures.ends 8
+          (λ moments. 0) start (G.before ++ called_behind start ms) G.gaps G.begin G.last g name bytes how
           (c.few_damaged_providers_leave_runs_calm.ensures.marked 8 start _ ps left.starts tell G.left.run
-          damages few)
-          (G.put.stored put_begun put_ended) (G.ends how get_begun get_ended);
+          damages few) (G.put.stored put_begun put_ended) (G.ends how get_begun get_ended);
     })

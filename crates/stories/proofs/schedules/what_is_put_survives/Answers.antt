@@ -21,9 +21,8 @@ returns c =
       put = put;
       left = W.left;
       written = W.written;
-      kept = λ begun ended.
-          (let K = c.stored_files_are_kept.ensures 8 start (W.later ++ called_behind start ms) name bytes
-          left.starts W.left.run (put.stored begun ended) in (
+      kept = λ begun ended. (let K = c.stored_files_are_kept.ensures 8 start
+          (W.later ++ called_behind start ms) name bytes left.starts W.left.run (put.stored begun ended) in (
             K.file,
             K.size,
             K.bytes_are,

@@ -2,7 +2,7 @@ use Rattle.stories.proofs.Words.{[], ◌∷◌, ◌++◌, ap, subst, ◌∙◌, 
 use Rattle.stories.specs.Words.{Put, Begun}
 use Rattle.stories.specs.Files.{put_of}
 use Rattle.stories.proofs.Puts.{called-free}
-use Rattle.stories.proofs.Told.{job-told, last-told, over-but, scrubs-but, got-right}
+use Rattle.stories.proofs.Told.{job-told, last-told, over-but, scrubs-but, got-back}
 use Rattle.stories.proofs.upkeep.files_behind_scrubs_are_got.Goals as goal
 
 pub returns : goal.returns
@@ -21,12 +21,5 @@ returns c =
     P.behind name bytes own p g named how W.left.starts tell W.left.run W.reads (P.as_many ∙ many)
     (over-but (Touches name) front P.before us [] P.rests leaves) (called-free name start ms) asks
     (subst (ByScrubs named commands) is (scrubs-but named commands R.0 (Ended how ∷ Begun g ∷ first) R.1 B))
-    (tt, before) in (
-      record {
-        ms = W.later;
-        left = W.left;
-        get = K.0;
-        right = got-right commands _ start ms new end W name bytes g how K.0;
-      },
-      K.1,
-    ))
+    (tt, before) in
+    (got-back commands _ start ms new end W name bytes g how K.0, K.1))

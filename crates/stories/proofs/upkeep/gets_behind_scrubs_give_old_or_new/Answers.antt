@@ -31,8 +31,8 @@ returns c =
           I.none_calls;
       gives = λ few. stood-since name bytes other start base A.job.older A.left.starts
           (run-before first between behind outcomes ws rs R.0 name g how start base R.2.later new A) S A.job.end.state how
-          (gives-among c.gets_give_what_stood.ensures first between behind outcomes ws rs R.0 name g how start base
-          R.2.later new named (scrubbed start) A (λ few. c.scrubs_in_a_row_begin_epochs.ensures.marked 8 start base R.2.later
+          (gives-among first between behind outcomes ws rs R.0 name g how start base R.2.later new A
+          c.gets_give_what_stood.ensures named (scrubbed start) (λ few. c.scrubs_in_a_row_begin_epochs.ensures.marked 8 start base R.2.later
           commands R.0 named R.2.left.starts tell R.2.left.run R.2.reads (scrubs-but named commands R.0
           (rs ++ Ended how ∷ (ws ++ Begun g ∷ outcomes)) R.1 B) (tt, before) few) few);
     })

@@ -4,7 +4,7 @@ use Rattle.machine_defs.specs.Jobs.{AuditJob, RepairJob}
 use Rattle.stories.specs.Words.{Begin, Put, Begun, now}
 use Rattle.stories.specs.Files.{put_of}
 use Rattle.stories.proofs.Puts.{called-free}
-use Rattle.stories.proofs.Told.{told-among, job-told, last-told, over-but, got-right}
+use Rattle.stories.proofs.Told.{told-among, job-told, last-told, over-but, got-back}
 use Rattle.stories.proofs.upkeep.repaired_files_are_got.Goals as goal
 
 pub returns : goal.returns
@@ -36,12 +36,5 @@ returns c =
     (omega arith, omega arith) W.left.starts tell W.left.run W.reads (M.as_many ∙ many) (A.as_many ∙ some)
     (P.as_many ∙ more) (over-but (Touches name) front P.before us [] P.rests leaves) (called-free name start ms) asks asks_between asks_later
     ((λ t n is. t), none_audits) (NoneUnderWay.given_up (call_from (now start ms)) ms tt) audits_front
-    audits_middle audits_between over (tt, before) names names_between names_later in (
-      record {
-        ms = W.later;
-        left = W.left;
-        get = B.0;
-        right = got-right commands _ start ms new end W name bytes g how B.0;
-      },
-      B.1,
-    ))
+    audits_middle audits_between over (tt, before) names names_between names_later in
+    (got-back commands _ start ms new end W name bytes g how B.0, B.1))

@@ -3,7 +3,7 @@ use Rattle.machine_defs.specs.Events.{BeginScrub}
 use Rattle.stories.specs.Words.{Put, Begun}
 use Rattle.stories.specs.Files.{put_of}
 use Rattle.stories.proofs.Puts.{called-free}
-use Rattle.stories.proofs.Told.{job-told, scrub-told, last-told, over-but, got-right}
+use Rattle.stories.proofs.Told.{job-told, scrub-told, last-told, over-but, got-back}
 use Rattle.stories.proofs.upkeep.scrubbed_files_are_got.Goals as goal
 
 pub returns : goal.returns
@@ -26,12 +26,5 @@ returns c =
     P.before P.behind S.1.behind name bytes own p s g stripes symbols S.0 ps qs how W.left.starts tell W.left.run
     W.reads (S.1.as_many ∙ many) (P.as_many ∙ more)
     (over-but (Touches name) front P.before us [] P.rests leaves) (called-free name start ms) asks asks_later
-    (tt, before) names names_later in (
-      record {
-        ms = W.later;
-        left = W.left;
-        get = B.0;
-        right = got-right commands _ start ms new end W name bytes g how B.0;
-      },
-      B.1,
-    ))
+    (tt, before) names names_later in
+    (got-back commands _ start ms new end W name bytes g how B.0, B.1))

@@ -4,11 +4,9 @@ use Rattle.provider_model.specs.Seen.{StoresAs, provider_seen}
 use Rattle.stripe_bench.proofs.storing.store_stripe.Goals as goal
 
 pub returns-clause-stored : goal.returns-clause-stored
-returns-clause-stored g c =
-    subst
-    (λ (block : List ℕ). StoresAs c.args.object c.args.stripe block c.store_block.result
-    (provider_seen g.P.Provider c.args.to.now) (provider_seen g.P.Provider c.store_block.new.to))
-    (c.deref.ensures.value ∙ c.make_column.ensures.column
+returns-clause-stored g c = subst (λ (block : List ℕ). StoresAs c.args.object c.args.stripe block
+    c.store_block.result (provider_seen g.P.Provider c.args.to.now)
+    (provider_seen g.P.Provider c.store_block.new.to)) (c.deref.ensures.value ∙ c.make_column.ensures.column
     ∙ (λ i. column_of_symbols (c.turn_to.ensures.object i) (c.turn_to.ensures.rows i).items c.args.provider
     c.args.stripe))
     c.store_block.ensures.stored

@@ -8,8 +8,7 @@ use Rattle.trial_maker.proofs.Listed.{losses_more, no-losses}
 use Rattle.trial_maker.proofs.epochs.push_losses.Goals as goal
 
 pub loop-stripe-init : goal.loop-stripe-init
-loop-stripe-init c =
-    sym (append-nil (commands_of c.args.events.now.items))
+loop-stripe-init c = sym (append-nil (commands_of c.args.events.now.items))
     ∙ ap (λ (more : List Instruction). commands_of c.args.events.now.items ++ more)
     (sym (no-losses c.args.provider))
 

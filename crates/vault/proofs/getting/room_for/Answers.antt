@@ -7,9 +7,8 @@ room len cap count made none same fits = omega (arith, none, same, fits)
 few : (stripes made length n : ℕ) → made ≡ stripes → made ≤ length → length ≤ 2 ^ 22 → n ≤ 16 →
     stripes * n ≤ 2 ^ 32
 few stripes made length n same some short least =
-    let all : stripes ≤ 2 ^ 22 = omega (arith, same, some, short) in
-    let most : stripes * n ≤ 2 ^ 22 * 16 = mul-le-mul all least in
-    omega (arith, most)
+    let all : stripes ≤ 2 ^ 22 = omega arith in
+    omega (arith, mul-le-mul all least)
 
 pub returns : goal.returns
 returns c =

@@ -1,4 +1,4 @@
-use Rattle.vault.proofs.Words.{◌≡◌, ◌*◌, ◌≤◌, Some, sym, ap, subst, ◌∙◌, Kind, aim_of, Setup, HasTold, IsPutFrom, stripe_size, told_by, stripe_by}
+use Rattle.vault.proofs.Words.{◌*◌, ◌≤◌, sym, ap, subst, ◌∙◌, HasTold, stripe_size, told_by, stripe_by}
 use Rattle.std.proofs.Common.{length}
 use Rattle.vault.proofs.CoreJobs.{core_of, profile_same}
 use Rattle.vault.proofs.GivenStripes.{waiting}
@@ -19,8 +19,6 @@ pub returns-clause-told : goal.returns-clause-told
 returns-clause-told c = λ v d w job stripe j name bytes S runs wants kind.
     let core = S.desk.core in
     let o = core_of v.desk.core.setup v.desk.core.jobs w.jobs job j core.jobs runs in
-    let wait = waiting v.desk d w job stripe j S.desk runs wants in
-    let told : o.job.told ≡ Some stripe = ap told_by (sym o.runs) ∙ wait.told in
-    subst (λ (s : Setup). stripe * stripe_size s j.profile ≤ length bytes) core.setup
-    (subst (λ (k : Kind). IsPutFrom (stripe * stripe_size v.desk.core.setup j.profile) (aim_of k)) kind
-    (subst (λ (t : _). HasTold v.desk.core.setup t j) told o.is.told))
+    let told = ap told_by (sym o.runs) ∙ (waiting v.desk d w job stripe j S.desk runs wants).told in
+    subst (λ s. stripe * stripe_size s j.profile ≤ length bytes) core.setup
+    (rw kind at (subst (λ (t : _). HasTold v.desk.core.setup t j) told o.is.told))

@@ -1,4 +1,4 @@
-use Rattle.vault_core.proofs.Words.{◌≡◌, ◌∙◌, ℕ, ◌+◌, ◌^◌, ◌≤◌, ap, subst, IfSome, IfNone, sum_by, Task, size_of_turn, most_at}
+use Rattle.vault_core.proofs.Words.{◌≡◌, ◌∙◌, ◌+◌, ap, sum_by, size_of_turn, most_at}
 use Rattle.std.proofs.Common.{◌*◌}
 use Rattle.vault_core.proofs.made.most_actions.Goals as goal
 use Rattle.vault_core.proofs.made.most_actions.Goals.{After-add_other}
@@ -6,16 +6,14 @@ use Rattle.vault_core.proofs.made.most_actions.Goals.{After-add_other}
 -- the sum that is made is of all actions
 sum_is : (c : After-add_other) → c.in-Some.on_files + c.other_size.result
     ≡ most_at c.args.providers c.args.wish.now c.args.flagged.now c.args.tasks.now
-sum_is c = ap (λ (k : ℕ). k + c.other_size.result) (c.in-Some.ensures.count
-    ∙ ap (λ (k : ℕ). sum_by (λ (t : Task). t.turns * k) c.args.tasks.now) c.turn_size-size.ensures.size)
-    ∙ ap (λ (k : ℕ). sum_by
-    (λ (t : Task). t.turns * size_of_turn c.args.providers c.args.wish.now c.args.flagged.now)
+sum_is c = ap (λ k. k + c.other_size.result) (c.in-Some.ensures.count
+    ∙ ap (λ k. sum_by (λ t. t.turns * k) c.args.tasks.now) c.turn_size-size.ensures.size)
+    ∙ ap (λ k. sum_by
+    (λ t. t.turns * size_of_turn c.args.providers c.args.wish.now c.args.flagged.now)
     c.args.tasks.now + k) c.other_size.ensures
 
 pub returns-in-Some-clause-most : goal.returns-in-Some-clause-most
-returns-in-Some-clause-most c = subst (λ (k : ℕ). IfSome c.add_other.result (λ most. most ≡ k)) (sum_is c)
-    c.add_other.ensures.sum
+returns-in-Some-clause-most c = rw (sum_is c) at c.add_other.ensures.sum
 
 pub returns-in-Some-clause-none : goal.returns-in-Some-clause-none
-returns-in-Some-clause-none c = subst (λ (k : ℕ). IfNone c.add_other.result (2 ^ 64 ≤ k)) (sum_is c)
-    c.add_other.ensures.none
+returns-in-Some-clause-none c = rw (sum_is c) at c.add_other.ensures.none

@@ -1,16 +1,13 @@
-use Rattle.vault_core.proofs.Words.{◌-◌, ◌∙◌, ap, arith, get_within, file_of_entry, core_pins, pin_by}
-use Rattle.vault_core.specs.declared.pinned.Pinned.{Pinned}
+use Rattle.vault_core.proofs.Words.{◌-◌, ◌∙◌, ap, arith, get_within, core_pins, pin_by}
 use Rattle.vault_core.proofs.Pins.{pins_step}
 use Rattle.vault_core.proofs.made.pin_all.Goals as goal
 
 pub loop-place-preserved : goal.loop-place-preserved
 loop-place-preserved c = record {
   within = omega arith;
-  pinned = pins_step c.args.table.now.files c.loop-place.place
-      (file_of_entry c.in-Some.file) c.loop-place.pinned.items c.pin.new.pinned.items
-      (omega arith) c.in-Some.ensures
+  pinned = pins_step c.args.table.now.files c.loop-place.place (omega arith) c.in-Some.ensures
       c.loop-place.invariant.pinned (c.in_ok-pin-in-Some.ensures
-      ∙ ap (λ (p : Pinned). pin_by core_pins p c.loop-place.pinned.items) c.pinned_entry.ensures);
+      ∙ ap (λ p. pin_by core_pins p c.loop-place.pinned.items) c.pinned_entry.ensures);
 }
 
 pub unreachable-requires : goal.unreachable-requires

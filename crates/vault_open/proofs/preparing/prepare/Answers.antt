@@ -5,12 +5,10 @@ use Rattle.vault_open.proofs.Prepared.{half-empty, half-resynced, text_fault, re
 use Rattle.vault_open.proofs.preparing.prepare.Goals as goal
 
 pub returns-in_err-make_empty-in-None-clause-left : goal.returns-in_err-make_empty-in-None-clause-left
-returns-in_err-make_empty-in-None-clause-left g c =
-    on_err c.from_residual-in_err-make_empty-in-None.result _
+returns-in_err-make_empty-in-None-clause-left g c = on_err c.from_residual-in_err-make_empty-in-None.result _
     (half-empty (g.D.Disk.holds c.args.disk.now) (g.D.Disk.holds c.read_disk.new.disk)
-    (g.D.Disk.holds c.make_empty.new.disk)
-    (c.in_ok-read_disk.ensures.disk.synced refl) (rw c.in-None.is at c.in_ok-read_disk.ensures.empty)
-    c.in_err-make_empty-in-None.ensures.left)
+    (g.D.Disk.holds c.make_empty.new.disk) (c.in_ok-read_disk.ensures.disk.synced refl)
+    (rw c.in-None.is at c.in_ok-read_disk.ensures.empty) c.in_err-make_empty-in-None.ensures.left)
 
 pub returns-in_err-base-in-Some-clause-refused : goal.returns-in_err-base-in-Some-clause-refused
 returns-in_err-base-in-Some-clause-refused g c = λ s.
@@ -28,9 +26,8 @@ returns-in_ok-make_empty-in-None-clause-ok g c = (
   A,
   refl,
   readied-empty (g.D.Disk.holds c.args.disk.now) (g.D.Disk.holds c.read_disk.new.disk)
-      (g.D.Disk.holds c.make_empty.new.disk)
-      (c.in_ok-read_disk.ensures.disk.synced refl) c.in_ok-make_empty-in-None.ensures.ok
-      (rw c.in-None.is at c.in_ok-read_disk.ensures.empty),
+      (g.D.Disk.holds c.make_empty.new.disk) (c.in_ok-read_disk.ensures.disk.synced refl)
+      c.in_ok-make_empty-in-None.ensures.ok (rw c.in-None.is at c.in_ok-read_disk.ensures.empty),
 )
 
 pub returns-in_ok-base-in-Some-clause-ok : goal.returns-in_ok-base-in-Some-clause-ok
@@ -47,14 +44,12 @@ returns-in_ok-base-in-Some-clause-ok g c =
 
 pub returns-in_err-read_disk-clause-left : goal.returns-in_err-read_disk-clause-left
 returns-in_err-read_disk-clause-left g c =
-    on_err c.from_residual.result _
-    (half-resynced (g.D.Disk.holds c.args.disk.now)
+    on_err c.from_residual.result _ (half-resynced (g.D.Disk.holds c.args.disk.now)
     (g.D.Disk.holds c.read_disk.new.disk) c.read_disk.ensures.disk.resynced)
 
 pub returns-in_err-base-in-Some-clause-left : goal.returns-in_err-base-in-Some-clause-left
 returns-in_err-base-in-Some-clause-left g c =
-    on_err c.from_residual-in_err-base-in-Some.result _
-    (half-resynced (g.D.Disk.holds c.args.disk.now)
+    on_err c.from_residual-in_err-base-in-Some.result _ (half-resynced (g.D.Disk.holds c.args.disk.now)
     (g.D.Disk.holds c.read_disk.new.disk) c.read_disk.ensures.disk.resynced)
 
 pub returns-in_err-read_disk-clause-unjudged : goal.returns-in_err-read_disk-clause-unjudged
@@ -68,7 +63,5 @@ returns-in_err-make_empty-in-None-clause-unjudged g c =
 
 pub returns-in_err-base-in-Some-clause-unjudged : goal.returns-in_err-base-in-Some-clause-unjudged
 returns-in_err-base-in-Some-clause-unjudged g c =
-    unjudged c.from_residual-in_err-base-in-Some.result _
-    c.from_residual-in_err-base-in-Some.ensures.1
-    (text-unjudged c.deref.result.now c.in_err-base-in-Some.field-0.0
-    c.in_err-base-in-Some.ensures.refused)
+    unjudged c.from_residual-in_err-base-in-Some.result _ c.from_residual-in_err-base-in-Some.ensures.1
+    (text-unjudged c.deref.result.now c.in_err-base-in-Some.field-0.0 c.in_err-base-in-Some.ensures.refused)

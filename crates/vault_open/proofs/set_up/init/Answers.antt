@@ -124,7 +124,6 @@ returns-in_err-base-clause-unlooked g c = λ is.
     (λ same. c.in_err-base.ensures.unjudged (ap (λ (f : InitFault). Err f) same)) is)
 
 pub returns-in_err-append_setup-clause-unlooked : goal.returns-in_err-append_setup-clause-unlooked
-returns-in_err-append_setup-clause-unlooked g c = λ is.
-    absurd (unjudged c.from_residual-in_err-append_setup.result
-    (init_answer c.in_err-append_setup.field-0.0) c.from_residual-in_err-append_setup.ensures.1
-    (disk-unjudged c.in_err-append_setup.field-0.0) is)
+returns-in_err-append_setup-clause-unlooked g c = λ is. absurd
+    (unjudged c.from_residual-in_err-append_setup.result (init_answer c.in_err-append_setup.field-0.0)
+    c.from_residual-in_err-append_setup.ensures.1 (disk-unjudged c.in_err-append_setup.field-0.0) is)

@@ -16,11 +16,10 @@ returns-in_err-table-clause-start g c =
     let looked : IsLookedAt told c.in-Some.bytes.items = rw c.in-Some.is at c.in_ok-bytes.ensures.bytes in
     let looked_at = subst (λ (l : List ℕ). IsLookedAt told l) (sym c.deref.ensures.value) looked in
     record {
-      refused = err-from c.from_residual-in_err-table.result _ _
-          (λ why is. subst (λ (f : StartFault). IfSome told (λ cells. IsStartFault (journal_read cells) f)) (sym is)
+      refused = err-from c.from_residual-in_err-table.result _ _ (λ why is. subst
+          (λ (f : StartFault). IfSome told (λ cells. IsStartFault (journal_read cells) f)) (sym is)
           (fold_fault told c.deref.result.now c.in_err-table.field-0.0 looked_at
-          c.in_err-table.ensures.refused))
-          c.from_residual-in_err-table.ensures.1;
+          c.in_err-table.ensures.refused)) c.from_residual-in_err-table.ensures.1;
       disk = search rules;
     }
 

@@ -5,9 +5,8 @@ use Rattle.vault_table.proofs.Places.{here-of, between-of, map-remove}
 use Rattle.vault_table.proofs.files.drop_file.Goals as goal
 
 pub returns-in-Ok-clause-found : goal.returns-in-Ok-clause-found
-returns-in-Ok-clause-found c =
-    rw (find-here (map file_of_entry c.args.files.now.items) c.args.name.now c.in-Ok.place
-    (here-of _ _ c.args.name.now c.in-Ok.place c.deref.ensures.value c.in-Ok.ensures)) refl
+returns-in-Ok-clause-found c = rw (find-here (map file_of_entry c.args.files.now.items) c.args.name.now
+    c.in-Ok.place (here-of _ _ c.args.name.now c.in-Ok.place c.deref.ensures.value c.in-Ok.ensures)) refl
 
 pub returns-in-Ok-clause-files : goal.returns-in-Ok-clause-files
 returns-in-Ok-clause-files c =

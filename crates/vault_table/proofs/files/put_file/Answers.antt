@@ -9,8 +9,7 @@ returns-in-Ok-clause-fits c = fits-here c.args.files.now.items c.args.file.name 
     (here-of _ _ c.args.file.name c.in-Ok.place c.deref.ensures.value c.in-Ok.ensures)
 
 pub returns-in-Ok-clause-files : goal.returns-in-Ok-clause-files
-returns-in-Ok-clause-files c =
-    map-set file_of_entry c.args.files.now.items c.in-Ok.place c.args.file
+returns-in-Ok-clause-files c = map-set file_of_entry c.args.files.now.items c.in-Ok.place c.args.file
     ∙ sym (put-here (map file_of_entry c.args.files.now.items) c.args.file.name c.in-Ok.place
     (file_of_entry c.args.file) refl
     (here-of _ _ c.args.file.name c.in-Ok.place c.deref.ensures.value c.in-Ok.ensures))

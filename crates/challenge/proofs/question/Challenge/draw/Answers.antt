@@ -13,8 +13,7 @@ invariant_of-result c =
     let drawn : (k : ℕ) → k < c.args.self.now.picks → get_or c.draw_rows.result k 0 ≡ picked_row seed rows k =
     λ k less. c.draw_rows.ensures k less ∙ ap (λ g. next_rows g rows k) behind ∙ row_drawn seed rows k in
     record {
-      weight_is =
-          c.weight_of-weight.ensures
+      weight_is = c.weight_of-weight.ensures
           ∙ ap (λ x. if x == 0 then 1 else x) (c.next_symbol.ensures.value
           ∙ ap next_symbol c.from_seed-rng.ensures)
           ∙ weight_drawn seed;

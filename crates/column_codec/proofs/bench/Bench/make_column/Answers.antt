@@ -18,8 +18,7 @@ invariant_of-self c =
     record {
       code_fits = v.code_fits;
       rows_fit = v.rows_fit;
-      column_fits =
-          ap length column ∙ c.column_into.auto.out ∙ ap length c.deref_mut.ensures.value
+      column_fits = ap length column ∙ c.column_into.auto.out ∙ ap length c.deref_mut.ensures.value
           ∙ v.column_fits;
       scratch_fits = v.scratch_fits;
       blocks_fit = v.blocks_fit;

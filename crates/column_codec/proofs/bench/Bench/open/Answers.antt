@@ -16,8 +16,7 @@ pub open-requires-clause-rows : goal.open-requires-clause-rows
 open-requires-clause-rows c = ap length c.deref_mut.ensures.value ∙ c.args.self.now.rows_fit
 
 pub open-requires-clause-scratch : goal.open-requires-clause-scratch
-open-requires-clause-scratch c =
-    ap length c.deref_mut-2.ensures.value ∙ c.args.self.now.scratch_fits
+open-requires-clause-scratch c = ap length c.deref_mut-2.ensures.value ∙ c.args.self.now.scratch_fits
 
 pub open-requires-clause-blocks : goal.open-requires-clause-blocks
 open-requires-clause-blocks c =

@@ -13,8 +13,7 @@ invariant_of-self c =
     c.symbols_into.auto.rows c.deref_mut.ensures.len in
     record {
       code_fits = v.code_fits;
-      rows_fit =
-          ap length rows ∙ c.symbols_into.auto.rows ∙ ap length c.deref_mut.ensures.value ∙ v.rows_fit;
+      rows_fit = ap length rows ∙ c.symbols_into.auto.rows ∙ ap length c.deref_mut.ensures.value ∙ v.rows_fit;
       column_fits = v.column_fits;
       scratch_fits = v.scratch_fits;
       blocks_fit = v.blocks_fit;

@@ -18,11 +18,9 @@ loop-j-preserved c =
     let j = c.loop-j.j in
     let inside : j < length c.args.self.now.blocks.now = c.loop-j-test.true in
     record {
-      counted = λ place below.
-          agreed_more (shaped_object keys.master.0 keys.file) c.args.rows.now c.args.self.now.marks.now
-          c.args.self.now.blocks.now place j (get_or c.loop-j.counts place 0)
-          (get_or c.count_provider.new.counts place 0) _
-          (λ i. if get_or c.args.self.now.marks.now j false
+      counted = λ place below. agreed_more (shaped_object keys.master.0 keys.file) c.args.rows.now
+          c.args.self.now.marks.now c.args.self.now.blocks.now place j (get_or c.loop-j.counts place 0)
+          (get_or c.count_provider.new.counts place 0) _ (λ i. if get_or c.args.self.now.marks.now j false
           then Some ((c.symbols.ensures ∙ c.index-blocks-j.is
           ∙ get_or_default c.args.self.now.blocks.now j c.index-blocks-j.result [] inside) i) else None)
           (c.loop-j.invariant.counted place below) (c.count_provider.ensures.counts place below);

@@ -42,6 +42,5 @@ open_present_blocks-marks-requires-clause-blocks c =
     all-blocks c.carry_clean.new.scratch c.args.self.now.coder.keys.now.file.profile.size c.carry_clean.ensures.sizes
 
 pub returns-clause-blocks : goal.returns-clause-blocks
-returns-clause-blocks c =
-    all-blocks c.open_present_blocks-marks.new.out c.args.self.now.coder.keys.now.file.profile.size
-    c.open_present_blocks-marks.ensures.sizes
+returns-clause-blocks c = all-blocks c.open_present_blocks-marks.new.out
+    c.args.self.now.coder.keys.now.file.profile.size c.open_present_blocks-marks.ensures.sizes

@@ -25,8 +25,7 @@ loop-j-preserved c =
     record {
       each = opened_more o c.args.self.now.coder.stripe seen c.loop-j.marks c.loop-j.out j
           (get_or seen j None) c.open_present_block.result _ new
-          (omega (arith, c.loop-j.invariant.many, keys.file.shape.fits.1)) inside
-          refl
+          (omega (arith, c.loop-j.invariant.many, keys.file.shape.fits.1)) inside refl
           (rewritten new _ c.block.inside.symbols.len len) c.open_present_block.ensures.yes
           c.open_present_block.ensures.no c.loop-j.invariant.each;
       sizes = all_sizes c.loop-j.out keys.file.profile.size j _ new inside

@@ -5,8 +5,7 @@ use Rattle.file_parts.proofs.SeenLemmas.{symbol_at-map, symbol_at-other}
 use Rattle.file_parts.proofs.seen_rows.SeenRowsBlocks.at.Goals as goal
 
 pub returns-then-size-self : goal.returns-then-size-self
-returns-then-size-self c =
-    sym (symbol_at-other (λ place. seen_symbol c.args.self.now.rows.now
+returns-then-size-self c = sym (symbol_at-other (λ place. seen_symbol c.args.self.now.rows.now
     (c.args.stripe * c.args.self.now.size + place)) c.args.self.now.size c.args.size c.args.place
     c.if-size-self.true)
 

@@ -22,9 +22,8 @@ invariant_of-self-in-Err-hold c = record {
 
 pub returns-in-Ok-hold-clause-machine : goal.returns-in-Ok-hold-clause-machine
 returns-in-Ok-hold-clause-machine c =
-    scrub-begun c.in-Some.vault c.hold.new.self c.in-Ok-hold.number c.in-Ok.scrub
-    c.in-Ok.ensures.begun c.in-Ok-hold.ensures.holds c.in-Ok-hold.ensures.busy c.args.self.now _ c.in-Some.is
-    refl refl
+    scrub-begun c.in-Some.vault c.hold.new.self c.in-Ok-hold.number c.in-Ok.scrub c.in-Ok.ensures.begun
+    c.in-Ok-hold.ensures.holds c.in-Ok-hold.ensures.busy c.args.self.now _ c.in-Some.is refl refl
 
 pub returns-in-Err-hold-clause-machine : goal.returns-in-Err-hold-clause-machine
 returns-in-Err-hold-clause-machine c =

@@ -16,8 +16,7 @@ returns-clause-machine g c = λ w providers moment told stands.
     (sym c.is_some.ensures ∙ c.if-is_some.false) told (c.init.ensures.machine w providers moment) stands
 
 pub returns-clause-standing : goal.returns-clause-standing
-returns-clause-standing g c = λ providers S.
-    by-told (g.D.Disk.holds c.args.disk.now)
+returns-clause-standing g c = λ providers S. by-told (g.D.Disk.holds c.args.disk.now)
     (λ told. (let M = returns-clause-machine g c S.state providers 0 told S.stands in
     record { state = M.state; stands = M.stands }))
     (λ none. closed-standing c.args.self.now

@@ -4,8 +4,7 @@ use Rattle.hail_client.proofs.client.Client.lose.Goals as goal
 
 pub returns-then-index-providers : goal.returns-then-index-providers
 returns-then-index-providers g c = record {
-  machine = λ w holds faults moment stands.
-      (let seen = provider_seen g.P.Provider in
+  machine = λ w holds faults moment stands. (let seen = provider_seen g.P.Provider in
       let spelled : IsSpelled (Lose c.args.provider c.args.object c.args.stripe) = (
         (let a = c.ranges.provider.fits in omega (arith, a)),
         (let a = c.ranges.object.fits in omega (arith, a)),
@@ -21,8 +20,7 @@ returns-then-index-providers g c = record {
 
 pub returns : goal.returns
 returns g c = record {
-  machine = λ w holds faults moment stands.
-      (let seen = provider_seen g.P.Provider in
+  machine = λ w holds faults moment stands. (let seen = provider_seen g.P.Provider in
       let spelled : IsSpelled (Lose c.args.provider c.args.object c.args.stripe) = (
         (let a = c.ranges.provider.fits in omega (arith, a)),
         (let a = c.ranges.object.fits in omega (arith, a)),

@@ -3,5 +3,4 @@ use Rattle.record_codec.specs.declared.setup.Setup.{Setup}
 use Rattle.hail_client.proofs.client.Client.providers.Goals as goal
 
 pub returns-in-Some : goal.returns-in-Some
-returns-in-Some c =
-    c.from.ensures ∙ (ap (λ (s : Setup). s.n) c.setup.ensures ∙ ap uses_by (sym c.in-Some.is))
+returns-in-Some c = c.from.ensures ∙ (ap (λ (s : Setup). s.n) c.setup.ensures ∙ ap uses_by (sym c.in-Some.is))

@@ -21,8 +21,7 @@ returns-in_err-vault-clause-anew g c = λ providers moment none handed.
     c.in_err-vault.field-0.0 c.from_residual.result c.from_residual.ensures.1 c.in_err-vault.ensures.start
 
 pub returns-in_err-vault-clause-standing : goal.returns-in_err-vault-clause-standing
-returns-in_err-vault-clause-standing g c = λ providers handed S.
-    by-told (g.D.Disk.holds c.args.disk.now)
+returns-in_err-vault-clause-standing g c = λ providers handed S. by-told (g.D.Disk.holds c.args.disk.now)
     (λ told. (let M = returns-in_err-vault-clause-machine g c S.state providers 0 told handed S.stands in
     record { state = M.state; stands = M.stands }))
     (λ none. left-standing c.args.self.now c.give_up.new.self c.give_up.ensures.closed _ _ _ providers none
@@ -39,15 +38,13 @@ returns-then-handed-from-clause-machine g c = λ w providers moment told handed 
     let n = ap (λ (s : Setup). s.n) c.setup.ensures in omega (arith, a, b, n, handed)) stands
 
 pub returns-then-handed-from-clause-anew : goal.returns-then-handed-from-clause-anew
-returns-then-handed-from-clause-anew g c = λ providers moment none handed.
-    few-are c.args.self.now c.give_up.new.self c.give_up.ensures.closed providers none moment
-    c.in_ok-vault.ensures.start c.in_ok-vault.ensures.opened
-    (let a = c.if-handed-from.true in let b = c.from.ensures in
+returns-then-handed-from-clause-anew g c = λ providers moment none handed. few-are c.args.self.now
+    c.give_up.new.self c.give_up.ensures.closed providers none moment c.in_ok-vault.ensures.start
+    c.in_ok-vault.ensures.opened (let a = c.if-handed-from.true in let b = c.from.ensures in
     let n = ap (λ (s : Setup). s.n) c.setup.ensures in omega (arith, a, b, n, handed))
 
 pub returns-then-handed-from-clause-standing : goal.returns-then-handed-from-clause-standing
-returns-then-handed-from-clause-standing g c = λ providers handed S.
-    by-told (g.D.Disk.holds c.args.disk.now)
+returns-then-handed-from-clause-standing g c = λ providers handed S. by-told (g.D.Disk.holds c.args.disk.now)
     (λ told. (let M = returns-then-handed-from-clause-machine g c S.state providers 0 told handed S.stands in
     record { state = M.state; stands = M.stands }))
     (λ none. (let M = (returns-then-handed-from-clause-anew g c providers 0 none handed).makes in
@@ -66,28 +63,24 @@ returns-clause-machine g c = λ w providers moment told handed stands.
     c.in_ok-vault.ensures.opened.streams stands)
 
 pub returns-clause-anew : goal.returns-clause-anew
-returns-clause-anew g c = λ providers moment none handed.
-    rw (c.hold.ensures.held c.in_ok-vault.ensures.opened.streams)
-    (enough-are c.args.self.now c.give_up.new.self c.give_up.ensures.closed providers none moment
-    c.in_ok-vault.ensures.start c.in_ok-vault.ensures.opened
+returns-clause-anew g c = λ providers moment none handed. rw
+    (c.hold.ensures.held c.in_ok-vault.ensures.opened.streams) (enough-are c.args.self.now c.give_up.new.self
+    c.give_up.ensures.closed providers none moment c.in_ok-vault.ensures.start c.in_ok-vault.ensures.opened
     (let a = c.if-handed-from.false in let b = c.from.ensures in
     let n = ap (λ (s : Setup). s.n) c.setup.ensures in omega (arith, a, b, n, handed))
     c.in_ok-vault.ensures.opened.streams)
 
 pub returns-clause-standing : goal.returns-clause-standing
-returns-clause-standing g c = λ providers handed S.
-    by-told (g.D.Disk.holds c.args.disk.now)
+returns-clause-standing g c = λ providers handed S. by-told (g.D.Disk.holds c.args.disk.now)
     (λ told. (let M = returns-clause-machine g c S.state providers 0 told handed S.stands in
     record { state = M.state; stands = M.stands }))
     (λ none. (let M = (returns-clause-anew g c providers 0 none handed).makes in
     record { state = M.state; stands = M.stands }))
 
 pub returns-clause-opened : goal.returns-clause-opened
-returns-clause-opened g c =
-    rw (c.hold.ensures.held c.in_ok-vault.ensures.opened.streams)
+returns-clause-opened g c = rw (c.hold.ensures.held c.in_ok-vault.ensures.opened.streams)
     (opens-over c.args.self.now c.give_up.new.self c.give_up.ensures.closed c.args.handed
-    c.in_ok-vault.ensures.opened
-    (let a = c.if-handed-from.false in let b = c.from.ensures in
+    c.in_ok-vault.ensures.opened (let a = c.if-handed-from.false in let b = c.from.ensures in
     let n = ap (λ (s : Setup). s.n) c.setup.ensures in omega (arith, a, b, n)))
 
 pub returns-clause-reopened : goal.returns-clause-reopened

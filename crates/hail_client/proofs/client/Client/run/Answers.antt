@@ -5,8 +5,7 @@ use Rattle.hail_client.proofs.client.Client.run.Goals as goal
 
 pub loop-turn-preserved-else-not-goes_on-4 : goal.loop-turn-preserved-else-not-goes_on-4
 loop-turn-preserved-else-not-goes_on-4 g c = (
-  λ start ms reached.
-      (let way = c.loop-turn.invariant.0 start ms reached in
+  λ start ms reached. (let way = c.loop-turn.invariant.0 start ms reached in
       one-more start ms c.args.job c.loop-turn.self c.step-turn.new.self
       (devices_seen g.D.Disk g.P.Provider c.loop-turn.disk c.loop-turn.providers)
       (devices_seen g.D.Disk g.P.Provider c.step-turn.new.disk c.step-turn.new.providers)
@@ -23,8 +22,7 @@ loop-turn-preserved-else-not-goes_on-4 g c = (
 
 pub loop-turn-preserved-else-not-goes_on-5 : goal.loop-turn-preserved-else-not-goes_on-5
 loop-turn-preserved-else-not-goes_on-5 g c = (
-  λ start ms reached.
-      (let way = c.loop-turn.invariant.0 start ms reached in
+  λ start ms reached. (let way = c.loop-turn.invariant.0 start ms reached in
       one-more start ms c.args.job c.loop-turn.self c.step-turn.new.self
       (devices_seen g.D.Disk g.P.Provider c.loop-turn.disk c.loop-turn.providers)
       (devices_seen g.D.Disk g.P.Provider c.step-turn.new.disk c.step-turn.new.providers)

@@ -15,8 +15,7 @@ use Rattle.hail_client.proofs.client.Client.step.Goals as goal
 -- ---- a job of the vault
 
 pub step-requires-clause-given : goal.step-requires-clause-given
-step-requires-clause-given g c =
-    none-wait c.in-Some.vault c.args.self.now.vault c.args.job c.in-Some.is
+step-requires-clause-given g c = none-wait c.in-Some.vault c.args.self.now.vault c.args.job c.in-Some.is
     (c.only_streams_wait.ensures c.in-Some.vault c.args.job) c.args.self.now.streamless
 
 pub invariant_of-self-in_default-take : goal.invariant_of-self-in_default-take
@@ -30,21 +29,17 @@ none-taken : (g : given.Over) (c : goal.After-providers-1 g) → c.args.self.now
 none-taken g c = sym c.take.ensures.value ∙ c.in_default-take.is
 
 pub returns-in_default-take-clause-machine : goal.returns-in_default-take-clause-machine
-returns-in_default-take-clause-machine g c =
-    step-of c.args.self.now _ c.in-Some.vault c.step.new.self c.args.job c.step.result _ _ c.in-Some.is
-    (none-taken g c) refl c.take.ensures.after c.step.ensures.machine
-    (let r = c.ranges.job.fits in omega (arith, r))
+returns-in_default-take-clause-machine g c = step-of c.args.self.now _ c.in-Some.vault c.step.new.self
+    c.args.job c.step.result _ _ c.in-Some.is (none-taken g c) refl c.take.ensures.after
+    c.step.ensures.machine (let r = c.ranges.job.fits in omega (arith, r))
 
 pub returns-in_default-take-clause-heard : goal.returns-in_default-take-clause-heard
-returns-in_default-take-clause-heard g c =
-    heard-of c.args.self.now c.args.self.now c.in-Some.vault c.step.new.self c.args.job c.step.result _ _
-    c.in-Some.is (none-taken g c) c.step.ensures.machine
+returns-in_default-take-clause-heard g c = heard-of c.args.self.now c.args.self.now c.in-Some.vault
+    c.step.new.self c.args.job c.step.result _ _ c.in-Some.is (none-taken g c) c.step.ensures.machine
 
 pub returns-in_default-take-clause-calls : goal.returns-in_default-take-clause-calls
-returns-in_default-take-clause-calls g c =
-    subst
-    (λ (coming : Coming). CallsNext g.D.Disk g.P.Provider coming c.args.disk.now c.args.providers.now
-    c.step.new.disk c.step.new.providers)
+returns-in_default-take-clause-calls g c = subst (λ (coming : Coming). CallsNext g.D.Disk g.P.Provider coming
+    c.args.disk.now c.args.providers.now c.step.new.disk c.step.new.providers)
     (sym (vault-coming c.args.self.now c.in-Some.vault c.args.job c.in-Some.is (none-taken g c)))
     c.step.ensures.calls
 
@@ -70,13 +65,11 @@ step-requires-in-Scrub-clause-there g c = there-at c.args.self.now.vault c.in-So
 
 pub invariant_of-self-in-More : goal.invariant_of-self-in-More
 invariant_of-self-in-More g c = record {
-  at_work = ∥∥₁_map
-      (beside-at c.args.self.now.vault c.args.self.now.alone c.in-Some.vault (alone.Scrub c.in-Scrub.running)
-      c.in-Some.is
-      (taken c.args.self.now.alone c.take.result c.in-Some-take.alone (alone.Scrub c.in-Scrub.running)
-      c.take.ensures.value c.in-Some-take.is c.in-Scrub.is) c.args.self.now.at_work)
-      (beside-on c.in-Some.vault c.in-Scrub.running c.step-in-Scrub.new.self
-      (map (provider_seen g.P.Provider) c.args.providers.now)
+  at_work = ∥∥₁_map (beside-at c.args.self.now.vault c.args.self.now.alone c.in-Some.vault
+      (alone.Scrub c.in-Scrub.running) c.in-Some.is (taken c.args.self.now.alone c.take.result
+      c.in-Some-take.alone (alone.Scrub c.in-Scrub.running) c.take.ensures.value c.in-Some-take.is
+      c.in-Scrub.is) c.args.self.now.at_work) (beside-on c.in-Some.vault c.in-Scrub.running
+      c.step-in-Scrub.new.self (map (provider_seen g.P.Provider) c.args.providers.now)
       (map (provider_seen g.P.Provider) c.step-in-Scrub.new.providers) c.in-More.ensures.over
       c.step-in-Scrub.ensures.providers (λ w m S. c.in-More.ensures.machine w m true S));
   streamless = streamless-on c.in-Some.vault c.in-Some.vault c.args.self.now.vault c.in-Some.is (λ x. x)
@@ -94,16 +87,14 @@ module _ (g : given.Over) (c : goal.Joined-self-4 g) where
 
   more-next : IsNext c.in-Scrub.running.scrub
   more-next = next-at c.in-Some.vault c.in-Scrub.running c.step-in-Scrub.new.self
-      (map (provider_seen g.P.Provider) c.args.providers.now)
-      (map (provider_seen g.P.Provider) c.step-in-Scrub.new.providers) _
-      (λ w m S. c.in-More.ensures.machine w m true S)
+      (map (provider_seen g.P.Provider) c.args.providers.now) (map (provider_seen g.P.Provider)
+      c.step-in-Scrub.new.providers) _ (λ w m S. c.in-More.ensures.machine w m true S)
       (beside-at c.args.self.now.vault c.args.self.now.alone c.in-Some.vault (alone.Scrub c.in-Scrub.running)
       c.in-Some.is more-is c.args.self.now.at_work)
 
 pub returns-in-More-clause-machine : goal.returns-in-More-clause-machine
-returns-in-More-clause-machine g c =
-    goes-on c.args.self.now c.in-Some.vault c.in-Scrub.running c.in-Some.is (more-is g c)
-    (g.D.Disk.holds c.args.disk.now) (g.D.Disk.faults c.args.disk.now)
+returns-in-More-clause-machine g c = goes-on c.args.self.now c.in-Some.vault c.in-Scrub.running c.in-Some.is
+    (more-is g c) (g.D.Disk.holds c.args.disk.now) (g.D.Disk.faults c.args.disk.now)
     (map (provider_seen g.P.Provider) c.args.providers.now) _
     (map (provider_seen g.P.Provider) c.step-in-Scrub.new.providers) c.args.job c.setup-n.result.n
     (let r = c.ranges.job.fits in omega (arith, r)) (more-number g c)
@@ -144,22 +135,20 @@ module _ (g : given.Over) (c : goal.After-drop-running-in-Done-8 g) where
 
   done-next : IsNext c.in-Scrub.running.scrub
   done-next = next-at c.in-Some.vault c.in-Scrub.running c.step-in-Scrub.new.self
-      (map (provider_seen g.P.Provider) c.args.providers.now)
-      (map (provider_seen g.P.Provider) c.step-in-Scrub.new.providers) _
-      (λ w m S. c.in-Done.ensures.machine w m true S)
+      (map (provider_seen g.P.Provider) c.args.providers.now) (map (provider_seen g.P.Provider)
+      c.step-in-Scrub.new.providers) _ (λ w m S. c.in-Done.ensures.machine w m true S)
       (beside-at c.args.self.now.vault c.args.self.now.alone c.in-Some.vault (alone.Scrub c.in-Scrub.running)
       c.in-Some.is done-is c.args.self.now.at_work)
 
 pub returns-in-Done-clause-machine : goal.returns-in-Done-clause-machine
-returns-in-Done-clause-machine g c =
-    ends c.args.self.now c.in-Some.vault c.in-Scrub.running c.in-Some.is (done-is g c)
-    (g.D.Disk.holds c.args.disk.now) (g.D.Disk.faults c.args.disk.now)
+returns-in-Done-clause-machine g c = ends c.args.self.now c.in-Some.vault c.in-Scrub.running c.in-Some.is
+    (done-is g c) (g.D.Disk.holds c.args.disk.now) (g.D.Disk.faults c.args.disk.now)
     (map (provider_seen g.P.Provider) c.args.providers.now) _ c.release.new.self
     (map (provider_seen g.P.Provider) c.step-in-Scrub.new.providers) c.args.job c.setup-n.result.n
     (let r = c.ranges.job.fits in omega (arith, r)) (done-number g c)
     (ap (λ (s : Setup). s.n) c.setup-n.ensures) c.step-in-Scrub.new.self c.in-Done.answer refl
-    c.take.ensures.after
-    (λ u d k h. c.release.ensures.free u d k h) (λ w m S. c.in-Done.ensures.machine w m true S)
+    c.take.ensures.after (λ u d k h. c.release.ensures.free u d k h)
+    (λ w m S. c.in-Done.ensures.machine w m true S)
 
 pub returns-in-Done-clause-calls : goal.returns-in-Done-clause-calls
 returns-in-Done-clause-calls g c =
@@ -194,59 +183,51 @@ invariant_of-self-in-Done-step_pack g c = record {
 }
 
 pub returns-in-More-step_pack-clause-machine : goal.returns-in-More-step_pack-clause-machine
-returns-in-More-step_pack-clause-machine g c =
-    packs-on c.args.self.now c.in-Some.vault c.in-Pack.running c.args.job c.in-Some.is
-    (taken c.args.self.now.alone c.take.result c.in-Some-take.alone (alone.Pack c.in-Pack.running)
-    c.take.ensures.value c.in-Some-take.is c.in-Pack.is)
+returns-in-More-step_pack-clause-machine g c = packs-on c.args.self.now c.in-Some.vault c.in-Pack.running
+    c.args.job c.in-Some.is (taken c.args.self.now.alone c.take.result c.in-Some-take.alone
+    (alone.Pack c.in-Pack.running) c.take.ensures.value c.in-Some-take.is c.in-Pack.is)
     (number-taken c.in-Some-take.alone (alone.Pack c.in-Pack.running) c.number.result c.args.job c.in-Pack.is
-    c.number.ensures c.if-number-job.false)
-    (g.D.Disk.holds c.args.disk.now) (g.D.Disk.holds c.step_pack.new.disk) (g.D.Disk.faults c.args.disk.now)
+    c.number.ensures c.if-number-job.false) (g.D.Disk.holds c.args.disk.now)
+    (g.D.Disk.holds c.step_pack.new.disk) (g.D.Disk.faults c.args.disk.now)
     (g.D.Disk.faults c.step_pack.new.disk) (map (provider_seen g.P.Provider) c.args.providers.now)
     (let r = c.ranges.job.fits in omega (arith, r)) _ c.step_pack.new.self refl c.in-More-step_pack.next refl
     (λ w S. c.in-More-step_pack.ensures.machine w _ true S)
 
 pub returns-in-Done-step_pack-clause-machine : goal.returns-in-Done-step_pack-clause-machine
-returns-in-Done-step_pack-clause-machine g c =
-    packs-end c.args.self.now c.in-Some.vault c.in-Pack.running c.args.job c.in-Some.is
-    (taken c.args.self.now.alone c.take.result c.in-Some-take.alone (alone.Pack c.in-Pack.running)
-    c.take.ensures.value c.in-Some-take.is c.in-Pack.is)
+returns-in-Done-step_pack-clause-machine g c = packs-end c.args.self.now c.in-Some.vault c.in-Pack.running
+    c.args.job c.in-Some.is (taken c.args.self.now.alone c.take.result c.in-Some-take.alone
+    (alone.Pack c.in-Pack.running) c.take.ensures.value c.in-Some-take.is c.in-Pack.is)
     (number-taken c.in-Some-take.alone (alone.Pack c.in-Pack.running) c.number.result c.args.job c.in-Pack.is
-    c.number.ensures c.if-number-job.false)
-    (g.D.Disk.holds c.args.disk.now) (g.D.Disk.holds c.step_pack.new.disk) (g.D.Disk.faults c.args.disk.now)
+    c.number.ensures c.if-number-job.false) (g.D.Disk.holds c.args.disk.now)
+    (g.D.Disk.holds c.step_pack.new.disk) (g.D.Disk.faults c.args.disk.now)
     (g.D.Disk.faults c.step_pack.new.disk) (map (provider_seen g.P.Provider) c.args.providers.now)
     (let r = c.ranges.job.fits in omega (arith, r)) _ c.step_pack.new.self refl c.in-Done-step_pack.answer
     c.take.ensures.after (λ w S. c.in-Done-step_pack.ensures.machine w _ true S)
 
 pub returns-in-More-step_pack-clause-packs : goal.returns-in-More-step_pack-clause-packs
-returns-in-More-step_pack-clause-packs g c = λ p is.
-    subst (λ (q : Pack). StepsPackCells q pack_step.More (g.D.Disk.holds c.args.disk.now)
-    (g.D.Disk.holds c.step_pack.new.disk))
-    (its-pack c.args.self.now.alone c.in-Pack.running p
-    (taken c.args.self.now.alone c.take.result c.in-Some-take.alone (alone.Pack c.in-Pack.running)
-    c.take.ensures.value c.in-Some-take.is c.in-Pack.is) is)
-    c.in-More-step_pack.ensures.moves
+returns-in-More-step_pack-clause-packs g c = λ p is. subst (λ (q : Pack). StepsPackCells q pack_step.More
+    (g.D.Disk.holds c.args.disk.now) (g.D.Disk.holds c.step_pack.new.disk))
+    (its-pack c.args.self.now.alone c.in-Pack.running p (taken c.args.self.now.alone c.take.result
+    c.in-Some-take.alone (alone.Pack c.in-Pack.running) c.take.ensures.value c.in-Some-take.is c.in-Pack.is)
+    is) c.in-More-step_pack.ensures.moves
 
 pub returns-in-Done-step_pack-clause-packs : goal.returns-in-Done-step_pack-clause-packs
-returns-in-Done-step_pack-clause-packs g c = λ p is.
-    subst (λ (q : Pack). StepsPackCells q (pack_step.Done c.in-Done-step_pack.answer)
-    (g.D.Disk.holds c.args.disk.now) (g.D.Disk.holds c.step_pack.new.disk))
-    (its-pack c.args.self.now.alone c.in-Pack.running p
+returns-in-Done-step_pack-clause-packs g c = λ p is. subst (λ (q : Pack). StepsPackCells q
+    (pack_step.Done c.in-Done-step_pack.answer) (g.D.Disk.holds c.args.disk.now)
+    (g.D.Disk.holds c.step_pack.new.disk)) (its-pack c.args.self.now.alone c.in-Pack.running p
     (taken c.args.self.now.alone c.take.result c.in-Some-take.alone (alone.Pack c.in-Pack.running)
-    c.take.ensures.value c.in-Some-take.is c.in-Pack.is) is)
-    c.in-Done-step_pack.ensures.moves
+    c.take.ensures.value c.in-Some-take.is c.in-Pack.is) is) c.in-Done-step_pack.ensures.moves
 
 pub returns-in-More-step_pack-clause-calls : goal.returns-in-More-step_pack-clause-calls
-returns-in-More-step_pack-clause-calls g c =
-    calls-pack c.args.self.now c.in-Some.vault c.in-Pack.running c.args.job c.in-Some.is
-    (taken c.args.self.now.alone c.take.result c.in-Some-take.alone (alone.Pack c.in-Pack.running)
-    c.take.ensures.value c.in-Some-take.is c.in-Pack.is)
+returns-in-More-step_pack-clause-calls g c = calls-pack c.args.self.now c.in-Some.vault c.in-Pack.running
+    c.args.job c.in-Some.is (taken c.args.self.now.alone c.take.result c.in-Some-take.alone
+    (alone.Pack c.in-Pack.running) c.take.ensures.value c.in-Some-take.is c.in-Pack.is)
     (number-taken c.in-Some-take.alone (alone.Pack c.in-Pack.running) c.number.result c.args.job c.in-Pack.is
     c.number.ensures c.if-number-job.false) g.D.Disk g.P.Provider _ _ _ _ c.step_pack.ensures.calls
 
 pub returns-in-Done-step_pack-clause-calls : goal.returns-in-Done-step_pack-clause-calls
-returns-in-Done-step_pack-clause-calls g c =
-    calls-pack c.args.self.now c.in-Some.vault c.in-Pack.running c.args.job c.in-Some.is
-    (taken c.args.self.now.alone c.take.result c.in-Some-take.alone (alone.Pack c.in-Pack.running)
-    c.take.ensures.value c.in-Some-take.is c.in-Pack.is)
+returns-in-Done-step_pack-clause-calls g c = calls-pack c.args.self.now c.in-Some.vault c.in-Pack.running
+    c.args.job c.in-Some.is (taken c.args.self.now.alone c.take.result c.in-Some-take.alone
+    (alone.Pack c.in-Pack.running) c.take.ensures.value c.in-Some-take.is c.in-Pack.is)
     (number-taken c.in-Some-take.alone (alone.Pack c.in-Pack.running) c.number.result c.args.job c.in-Pack.is
     c.number.ensures c.if-number-job.false) g.D.Disk g.P.Provider _ _ _ _ c.step_pack.ensures.calls

@@ -4,8 +4,7 @@ use Rattle.hail_poly.proofs.ArithSteps.{interpolated_short, interpolated_takes}
 use Rattle.hail_poly.proofs.poly.Poly.interpolate.Goals as goal
 
 pub returns-clause-is : goal.returns-clause-is
-returns-clause-is c =
-    c.from_vec.ensures ∙
+returns-clause-is c = c.from_vec.ensures ∙
     ap trim (lent c.in_ok-rest.rest.len c.interpolate_into.new.rest c.in_ok-rest.rest.items
     (grind (arith, common_steps)) ∙ c.interpolate_into.ensures.rest)
 

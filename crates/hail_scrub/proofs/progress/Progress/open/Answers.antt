@@ -27,9 +27,8 @@ returns-in-Ok-clause-step c =
     c.in-Ok.ensures.surveyed c.take.new.self c.take.ensures
 
 pub returns-in-Ok-clause-left : goal.returns-in-Ok-clause-left
-returns-in-Ok-clause-left c =
-    falls_by c.args.self.now c.take.new.self c.requires.whole (returns-in-Ok-clause-whole c)
-    c.take.ensures.falls
+returns-in-Ok-clause-left c = falls_by c.args.self.now c.take.new.self c.requires.whole
+    (returns-in-Ok-clause-whole c) c.take.ensures.falls
 
 pub returns-in-Err-clause-step : goal.returns-in-Err-clause-step
 returns-in-Err-clause-step c = λ ps.

@@ -11,20 +11,17 @@ index_mut-bench-requires g c =
     omega (arith, l)
 
 pub store_stripe-requires : goal.store_stripe-requires
-store_stripe-requires g c =
-    store_fits c.args.self.now c.requires.whole c.args.spot c.args.provider c.requires.here
-    c.index_mut-bench.result.now c.index_mut-bench.ensures.value
+store_stripe-requires g c = store_fits c.args.self.now c.requires.whole c.args.spot c.args.provider
+    c.requires.here c.index_mut-bench.result.now c.index_mut-bench.ensures.value
 
 pub stop-requires : goal.stop-requires
-stop-requires g c =
-    store_whole c.args.self.now c.requires.whole c.args.spot c.args.provider c.requires.here
+stop-requires g c = store_whole c.args.self.now c.requires.whole c.args.spot c.args.provider c.requires.here
     c.index_mut-bench.result.now c.index_mut-bench.ensures.value c.store_stripe.new.bench
     c.store_stripe.ensures.object
 
 pub stop-requires-in-Err-Memory : goal.stop-requires-in-Err-Memory
-stop-requires-in-Err-Memory g c =
-    store_whole c.args.self.now c.requires.whole c.args.spot c.args.provider c.requires.here
-    c.index_mut-bench.result.now c.index_mut-bench.ensures.value c.store_stripe.new.bench
+stop-requires-in-Err-Memory g c = store_whole c.args.self.now c.requires.whole c.args.spot c.args.provider
+    c.requires.here c.index_mut-bench.result.now c.index_mut-bench.ensures.value c.store_stripe.new.bench
     c.store_stripe.ensures.object
 
 pub returns-in-Ok-clause-whole : goal.returns-in-Ok-clause-whole

@@ -21,9 +21,8 @@ returns-clause-machine g c = λ w m is_told stands.
     c.step.result new (map by qs) (step_by is_told v ps c.step.result new qs c.step.ensures.step))
 
 pub returns-clause-calls : goal.returns-clause-calls
-returns-clause-calls g c =
-    subst (λ (v : ScrubView). CallsOnly g.P.Provider.calls (called_by (next_to_do v)) c.args.providers.now
-    c.step.new.providers) c.self.view_is c.step.ensures.calls
+returns-clause-calls g c = subst (λ (v : ScrubView). CallsOnly g.P.Provider.calls (called_by (next_to_do v))
+    c.args.providers.now c.step.new.providers) c.self.view_is c.step.ensures.calls
 
 pub returns-clause-over : goal.returns-clause-over
 returns-clause-over g c =

@@ -1,5 +1,5 @@
 use Rattle.provider_wire.proofs.Words.{refl, sym, ap, ◌∙◌, arith, out_of_step}
-use Rattle.provider_wire.proofs.Outcomes.{heard, ask_done, ask_missing, ask_failed, ask_steps}
+use Rattle.provider_wire.proofs.Outcomes.{heard, ask_done, ask_missing, ask_failed, steps}
 use Rattle.provider_wire.proofs.Counting.{went, lost, answer_came, call_failed}
 use Rattle.provider_wire.proofs.link_provider.LinkProvider.ask_over.Goals as goal
 use Rattle.provider_wire.proofs.Symbols.{one_symbol}
@@ -7,8 +7,7 @@ use Rattle.provider_wire.proofs.Symbols.{one_symbol}
 pub returns-then-eq-clause-answered : goal.returns-then-eq-clause-answered
 returns-then-eq-clause-answered g c =
     let e = c.request-answer.ensures in
-    let h = heard e.told e.untold c.as_slice.ensures c.ask_frame-frame.ensures refl in
-    ask_done h c.symbol_of-symbol.result
+    ask_done (heard e.told e.untold c.as_slice.ensures c.ask_frame-frame.ensures refl) c.symbol_of-symbol.result
     (one_symbol c.request-answer.new.symbols c.symbol_of-symbol.result c.request-answer.auto.symbols
     c.symbol_of-symbol.ensures) c.symbol_is_number.ensures
     (sym c.eq.ensures ∙ c.if-eq.true) e.store_faults e.other_faults
@@ -27,7 +26,7 @@ invariant_of-self g c =
     let h = heard e.told e.untold c.as_slice.ensures c.ask_frame-frame.ensures refl in
     record {
       in_step = ap (out_of_step (g.L.Link.behind c.request-answer.new.self.link)) c.ne-self.ensures
-          ∙ ask_steps (sym c.eq.ensures ∙ c.if-eq.false) (sym c.eq-2.ensures ∙ c.if-eq-2.false) h;
+          ∙ steps h (sym c.eq.ensures ∙ c.if-eq.false) (sym c.eq-2.ensures ∙ c.if-eq-2.false);
     }
 
 pub returns-clause-answered : goal.returns-clause-answered

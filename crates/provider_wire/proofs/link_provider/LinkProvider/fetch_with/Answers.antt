@@ -1,5 +1,5 @@
 use Rattle.provider_wire.proofs.Words.{refl, sym, ap, ◌∙◌, arith, out_of_step}
-use Rattle.provider_wire.proofs.Outcomes.{heard, fetch_done, fetch_missing, fetch_failed, fetch_steps}
+use Rattle.provider_wire.proofs.Outcomes.{heard, fetch_done, fetch_missing, fetch_failed, steps}
 use Rattle.provider_wire.proofs.Counting.{went, lost, answer_came, call_failed, one_more_is}
 use Rattle.provider_wire.proofs.link_provider.LinkProvider.fetch_with.Goals as goal
 
@@ -26,7 +26,7 @@ invariant_of-self-2 g c =
     let h = heard e.told e.untold c.as_slice.ensures c.fetch_frame-frame.ensures c.requires.room in
     record {
       in_step = ap (out_of_step (g.L.Link.behind c.request-answer.new.self.link)) c.ne-self.ensures
-          ∙ fetch_steps (sym c.eq.ensures ∙ c.if-eq.false) (sym c.eq-2.ensures ∙ c.if-eq-2.false) h;
+          ∙ steps h (sym c.eq.ensures ∙ c.if-eq.false) (sym c.eq-2.ensures ∙ c.if-eq-2.false);
     }
 
 pub returns-clause-answered : goal.returns-clause-answered

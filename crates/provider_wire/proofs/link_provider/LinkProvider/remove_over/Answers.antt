@@ -1,5 +1,5 @@
 use Rattle.provider_wire.proofs.Words.{refl, sym, ap, ◌∙◌, arith, out_of_step}
-use Rattle.provider_wire.proofs.Outcomes.{heard, remove_done, remove_failed, remove_steps}
+use Rattle.provider_wire.proofs.Outcomes.{heard, remove_done, remove_failed, steps}
 use Rattle.provider_wire.proofs.Counting.{went, lost, answer_came, call_failed}
 use Rattle.provider_wire.proofs.link_provider.LinkProvider.remove_over.Goals as goal
 
@@ -16,7 +16,7 @@ invariant_of-self g c =
     let h = heard e.told e.untold c.as_slice.ensures c.remove_frame-frame.ensures refl in
     record {
       in_step = ap (out_of_step (g.L.Link.behind c.request-answer.new.self.link)) c.ne-self.ensures
-          ∙ remove_steps (sym c.eq.ensures ∙ c.if-eq.false) h;
+          ∙ steps h (sym c.eq.ensures ∙ c.if-eq.false) (sym c.eq.ensures ∙ c.if-eq.false);
     }
 
 pub returns-clause-answered : goal.returns-clause-answered

@@ -11,11 +11,9 @@ invariant_of-self g c =
     let p = c.args.self.now in
     let r = c.requires.0 in
     record {
-      in_step = unanswered (g.L.Link.behind p.link)
-          (g.L.Link.behind c.ask_link-answer.new.link) true r c.ask_link-answer.result
-          c.ask_link-answer.new.symbols
-          (λ b e. c.ask_link-answer.ensures.told b r e (idle b _ p.broken e p.in_step).1 c.requires.1
-          c.requires.2) c.ask_link-answer.ensures.untold
+      in_step = unanswered (g.L.Link.behind p.link) (g.L.Link.behind c.ask_link-answer.new.link) true r
+          c.ask_link-answer.result c.ask_link-answer.new.symbols (λ b e. c.ask_link-answer.ensures.told b r e
+          (idle b _ p.broken e p.in_step).1 c.requires.1 c.requires.2) c.ask_link-answer.ensures.untold
           (no_value c.ask_link-answer.result c.if-is_none.ensures);
     }
 
@@ -24,9 +22,8 @@ invariant_of-self-else-is_none g c =
     let p = c.args.self.now in
     let r = c.requires.0 in
     record {
-      in_step = answered (g.L.Link.behind p.link)
-          (g.L.Link.behind c.ask_link-answer.new.link) p.broken r c.ask_link-answer.result
-          c.ask_link-answer.new.symbols
-          (λ b e. c.ask_link-answer.ensures.told b r e (idle b _ p.broken e p.in_step).1 c.requires.1
-          c.requires.2) c.ask_link-answer.ensures.untold c.if-self.false;
+      in_step = answered (g.L.Link.behind p.link) (g.L.Link.behind c.ask_link-answer.new.link) p.broken r
+          c.ask_link-answer.result c.ask_link-answer.new.symbols (λ b e. c.ask_link-answer.ensures.told b r e
+          (idle b _ p.broken e p.in_step).1 c.requires.1 c.requires.2) c.ask_link-answer.ensures.untold
+          c.if-self.false;
     }

@@ -1,5 +1,5 @@
 use Rattle.provider_wire.proofs.Words.{refl, sym, ap, ◌∙◌, arith, out_of_step}
-use Rattle.provider_wire.proofs.Outcomes.{heard, store_done, store_no_room, store_failed, store_steps}
+use Rattle.provider_wire.proofs.Outcomes.{heard, store_done, store_no_room, store_failed, steps}
 use Rattle.provider_wire.proofs.Counting.{went, lost, answer_came, call_failed}
 use Rattle.provider_wire.proofs.link_provider.LinkProvider.store_over.Goals as goal
 
@@ -23,7 +23,7 @@ invariant_of-self g c =
     let h = heard e.told e.untold c.as_slice.ensures c.store_frame-frame.ensures refl in
     record {
       in_step = ap (out_of_step (g.L.Link.behind c.request-answer.new.self.link)) c.ne-self.ensures
-          ∙ store_steps (sym c.eq.ensures ∙ c.if-eq.false) (sym c.eq-2.ensures ∙ c.if-eq-2.false) h;
+          ∙ steps h (sym c.eq.ensures ∙ c.if-eq.false) (sym c.eq-2.ensures ∙ c.if-eq-2.false);
     }
 
 pub returns-clause-answered : goal.returns-clause-answered

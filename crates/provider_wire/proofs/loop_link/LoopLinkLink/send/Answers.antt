@@ -9,7 +9,6 @@ returns-then-self-len-clause-sent g c =
     (omega (arith, length-drop link.given link.due, c.len.ensures, c.if-self-len.true))
 
 pub returns-in-Some-clause-sent : goal.returns-in-Some-clause-sent
-returns-in-Some-clause-sent g c =
-    sent_whole (g.P.Provider.held c.args.self.now.provider)
+returns-in-Some-clause-sent g c = sent_whole (g.P.Provider.held c.args.self.now.provider)
     (g.P.Provider.held c.answer-self.new.provider) _ _ _ _ _ _ _ c.args.bytes.now c.answer-self.result
     (request_of c.in-Some.request) c.in-Some.ensures.found c.answer-self.ensures

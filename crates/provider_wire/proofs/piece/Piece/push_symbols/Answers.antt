@@ -15,7 +15,6 @@ push-requires c =
     omega (arith, size, now, more)
 
 pub loop-symbol-preserved : goal.loop-symbol-preserved
-loop-symbol-preserved c =
-    pushed_more c.args.self.now c.loop-symbol.self c.push.new.self c.args.symbols.now c.to_bytes.result
-    c.loop-symbol.symbol-index c.symbol-item.result c.loop-symbol-test.true c.symbol-item.is
+loop-symbol-preserved c = pushed_more c.args.self.now c.loop-symbol.self c.push.new.self c.args.symbols.now
+    c.to_bytes.result c.loop-symbol.symbol-index c.symbol-item.result c.loop-symbol-test.true c.symbol-item.is
     c.to_bytes.ensures c.loop-symbol.invariant c.push.ensures

@@ -11,16 +11,13 @@ overflow_sub-result c =
     omega (arith, ap length took.0.parts, length-append text c.in-Some.rest.now)
 
 pub returns-in-Some-clause-some : goal.returns-in-Some-clause-some
-returns-in-Some-clause-some c =
-    let text = request_bytes (request_of c.in-Some.request) in
-    let took = request_takes c.args.bytes.now (request_of c.in-Some.request, c.in-Some.rest.now)
-    (λ i. omega (arith, c.type_inv.bytes i)) (sym c.in-Some.ensures) in
-    omega (
-      arith,
-      ap length took.0.parts,
-      length-append text c.in-Some.rest.now,
-      spelling-some (request_of c.in-Some.request),
-    )
+returns-in-Some-clause-some c = omega (
+  arith,
+  ap length (request_takes c.args.bytes.now (request_of c.in-Some.request, c.in-Some.rest.now)
+      (λ i. omega (arith, c.type_inv.bytes i)) (sym c.in-Some.ensures)).0.parts,
+  length-append (request_bytes (request_of c.in-Some.request)) c.in-Some.rest.now,
+  spelling-some (request_of c.in-Some.request),
+)
 
 pub returns-in-Some-clause-found : goal.returns-in-Some-clause-found
 returns-in-Some-clause-found c =
@@ -30,11 +27,10 @@ returns-in-Some-clause-found c =
     let took = request_takes bytes (request_of c.in-Some.request, rest)
     (λ i. omega (arith, c.type_inv.bytes i)) (sym c.in-Some.ensures) in
     let n = length bytes - length rest in
-    let len : length text ≡ n = omega (arith, ap length took.0.parts, length-append text rest) in
     record {
       is_request = took.1;
-      bytes_are = ap (λ (l : List ℕ). take n l) took.0.parts
-          ∙ take_at text rest n len;
+      bytes_are = ap (λ l. take n l) took.0.parts
+          ∙ take_at text rest n (omega (arith, ap length took.0.parts, length-append text rest));
     }
 
 pub returns-in-None-clause-none : goal.returns-in-None-clause-none

@@ -11,15 +11,13 @@ remove-running-requires c =
     omega (arith, place_within c.args.self.now.jobs.items c.args.job _ c.place_of-place.ensures)
 
 pub returns-clause-stands : goal.returns-clause-stands
-returns-clause-stands c = λ w d j S runs.
-    abandoned_stands c.args.self.now _ c.args.job (
+returns-clause-stands c = λ w d j S runs. abandoned_stands c.args.self.now _ c.args.job (
     record {
       wants = c.requires.wants;
       place = c.place_of-place.result;
       old = c.remove-running.result;
       at = c.place_of-place.ensures;
-      there =
-          item_at c.args.self.now.jobs.items c.args.job c.place_of-place.result c.remove-running.result
+      there = item_at c.args.self.now.jobs.items c.args.job c.place_of-place.result c.remove-running.result
           c.place_of-place.ensures c.remove-running.ensures.value;
       jobs = c.remove-running.ensures.items;
       keeps = record { setup = refl; master = refl; shape = refl; base = refl };
@@ -31,15 +29,13 @@ returns-clause-stands c = λ w d j S runs.
     ) w d j S runs
 
 pub returns-clause-at_work : goal.returns-clause-at_work
-returns-clause-at_work c =
-    abandoned_works c.args.self.now _ c.args.job (
+returns-clause-at_work c = abandoned_works c.args.self.now _ c.args.job (
     record {
       wants = c.requires.wants;
       place = c.place_of-place.result;
       old = c.remove-running.result;
       at = c.place_of-place.ensures;
-      there =
-          item_at c.args.self.now.jobs.items c.args.job c.place_of-place.result c.remove-running.result
+      there = item_at c.args.self.now.jobs.items c.args.job c.place_of-place.result c.remove-running.result
           c.place_of-place.ensures c.remove-running.ensures.value;
       jobs = c.remove-running.ensures.items;
       keeps = record { setup = refl; master = refl; shape = refl; base = refl };

@@ -1,5 +1,4 @@
-use Rattle.vault.proofs.Words.{◌-◌, [], ◌∷◌, ◌++◌, refl, ap, subst, spelling, Coming, seen_action, called_provider, moves_before_next, MovesCells, Comes}
-use Rattle.vault_core.specs.declared.action.Action.{Action}
+use Rattle.vault.proofs.Words.{refl, ap, seen_action, called_provider}
 use Rattle.vault_core.specs.Coming.{Acts}
 use Rattle.vault.proofs.Called.{acts-as, calls-none, calls-provider, calls-nothing, calls-move}
 use Rattle.vault.proofs.desk.Desk.act.Goals as goal
@@ -10,23 +9,16 @@ returns-in-WriteBody g c = record {
   calls = calls-move g.D.Disk g.P.Provider _ _ _ _ c.in-WriteBody.is c.move_append.ensures.tells
       c.move_append.ensures.called;
   moves = λ w entry stands wrote calls.
-      subst
-      (λ (coming : Coming). MovesCells (moves_before_next coming) (c.args.self.now.core.end - 1)
-      (spelling entry ++ 0 ∷ []) c.move_append.result
-      (g.D.Disk.holds c.args.disk.now) (g.D.Disk.holds c.move_append.new.disk))
-      c.requires.next.value (c.move_append.ensures.cells w entry _ stands wrote);
+      (rw c.requires.next.value at (c.move_append.ensures.cells w entry _ stands wrote));
   acted = c.move_append.ensures.acted;
 }
 
 pub store-requires-clause-next : goal.store-requires-clause-next
-store-requires-clause-next g c =
-    subst (λ (a : Action). Comes c.args.self.now.core c.args.job (seen_action a)) c.in-Store.is
-    c.requires.next
+store-requires-clause-next g c = rw c.in-Store.is at c.requires.next
 
 pub store-requires-clause-there : goal.store-requires-clause-there
 store-requires-clause-there g c =
-    c.requires.there c.in-Store.provider
-    (ap (λ (a : Action). called_provider (Acts (seen_action a))) c.in-Store.is)
+    c.requires.there c.in-Store.provider (ap (λ a. called_provider (Acts (seen_action a))) c.in-Store.is)
 
 pub returns-in-Store : goal.returns-in-Store
 returns-in-Store g c = record {
@@ -38,14 +30,11 @@ returns-in-Store g c = record {
 }
 
 pub fetch-requires-clause-next : goal.fetch-requires-clause-next
-fetch-requires-clause-next g c =
-    subst (λ (a : Action). Comes c.args.self.now.core c.args.job (seen_action a)) c.in-Fetch.is
-    c.requires.next
+fetch-requires-clause-next g c = rw c.in-Fetch.is at c.requires.next
 
 pub fetch-requires-clause-there : goal.fetch-requires-clause-there
 fetch-requires-clause-there g c =
-    c.requires.there c.in-Fetch.provider
-    (ap (λ (a : Action). called_provider (Acts (seen_action a))) c.in-Fetch.is)
+    c.requires.there c.in-Fetch.provider (ap (λ a. called_provider (Acts (seen_action a))) c.in-Fetch.is)
 
 pub returns-in-Fetch : goal.returns-in-Fetch
 returns-in-Fetch g c = record {
@@ -57,14 +46,11 @@ returns-in-Fetch g c = record {
 }
 
 pub ask-requires-clause-next : goal.ask-requires-clause-next
-ask-requires-clause-next g c =
-    subst (λ (a : Action). Comes c.args.self.now.core c.args.job (seen_action a)) c.in-Ask.is
-    c.requires.next
+ask-requires-clause-next g c = rw c.in-Ask.is at c.requires.next
 
 pub ask-requires-clause-there : goal.ask-requires-clause-there
 ask-requires-clause-there g c =
-    c.requires.there c.in-Ask.provider
-    (ap (λ (a : Action). called_provider (Acts (seen_action a))) c.in-Ask.is)
+    c.requires.there c.in-Ask.provider (ap (λ a. called_provider (Acts (seen_action a))) c.in-Ask.is)
 
 pub returns-in-Ask : goal.returns-in-Ask
 returns-in-Ask g c = record {
@@ -76,14 +62,11 @@ returns-in-Ask g c = record {
 }
 
 pub remove-requires-clause-next : goal.remove-requires-clause-next
-remove-requires-clause-next g c =
-    subst (λ (a : Action). Comes c.args.self.now.core c.args.job (seen_action a)) c.in-Remove.is
-    c.requires.next
+remove-requires-clause-next g c = rw c.in-Remove.is at c.requires.next
 
 pub remove-requires-clause-there : goal.remove-requires-clause-there
 remove-requires-clause-there g c =
-    c.requires.there c.in-Remove.provider
-    (ap (λ (a : Action). called_provider (Acts (seen_action a))) c.in-Remove.is)
+    c.requires.there c.in-Remove.provider (ap (λ a. called_provider (Acts (seen_action a))) c.in-Remove.is)
 
 pub returns-in-Remove : goal.returns-in-Remove
 returns-in-Remove g c = record {
@@ -95,9 +78,7 @@ returns-in-Remove g c = record {
 }
 
 pub work-requires-clause-next : goal.work-requires-clause-next
-work-requires-clause-next g c =
-    subst (λ (a : Action). Comes c.args.self.now.core c.args.job (seen_action a)) c.in-Work.is
-    c.requires.next
+work-requires-clause-next g c = rw c.in-Work.is at c.requires.next
 
 pub returns-in-Work : goal.returns-in-Work
 returns-in-Work g c = record {
@@ -108,9 +89,7 @@ returns-in-Work g c = record {
 }
 
 pub end-requires-clause-next : goal.end-requires-clause-next
-end-requires-clause-next g c =
-    subst (λ (a : Action). Comes c.args.self.now.core c.args.job (seen_action a)) c.in-End.is
-    c.requires.next
+end-requires-clause-next g c = rw c.in-End.is at c.requires.next
 
 pub returns-in-End : goal.returns-in-End
 returns-in-End g c = record {

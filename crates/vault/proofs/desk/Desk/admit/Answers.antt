@@ -6,16 +6,14 @@ use Rattle.vault.proofs.Refused.{refused}
 use Rattle.vault.proofs.desk.Desk.admit.Goals as goal
 
 pub returns-then-is_err-clause-machine : goal.returns-then-is_err-clause-machine
-returns-then-is_err-clause-machine c = λ w d moment kind stands of spelled is.
-    refused c.args.self.now _ d w moment kind (profile_named c.args.wish) fault.Memory stands refl
-    c.reserve.ensures.items (record { setup = refl; master = refl; shape = refl; base = refl }) refl
-    (λ memory. absurd (memory refl))
+returns-then-is_err-clause-machine c = λ w d moment kind stands of spelled is. refused c.args.self.now _ d w
+    moment kind (profile_named c.args.wish) fault.Memory stands refl c.reserve.ensures.items
+    (record { setup = refl; master = refl; shape = refl; base = refl }) refl (λ memory. absurd (memory refl))
 
 pub returns-in-Err-clause-machine : goal.returns-in-Err-clause-machine
-returns-in-Err-clause-machine c = λ w d moment kind stands of spelled is.
-    refused c.args.self.now _ d w moment kind (profile_named c.args.wish) c.in-Err.why stands
-    c.in-Err.ensures.begins.unchanged c.reserve.ensures.items
-    (record { setup = refl; master = refl; shape = refl; base = refl }) refl
+returns-in-Err-clause-machine c = λ w d moment kind stands of spelled is. refused c.args.self.now _ d w moment
+    kind (profile_named c.args.wish) c.in-Err.why stands c.in-Err.ensures.begins.unchanged
+    c.reserve.ensures.items (record { setup = refl; master = refl; shape = refl; base = refl }) refl
     (c.in-Err.ensures.begins.refused w kind stands.core of)
 
 pub returns-in-Ok-clause-machine : goal.returns-in-Ok-clause-machine

@@ -11,8 +11,7 @@ pub question-question-requires-clause-runs : goal.question-question-requires-cla
 question-question-requires-clause-runs g c = runs_next c.args.self.now.core c.args.job _ c.requires.next.value
 
 pub question-question-requires-clause-there : goal.question-question-requires-clause-there
-question-question-requires-clause-there g c =
-    ∥∥₁_map (c.requires.at_work (λ number. []) (λ number. refl))
+question-question-requires-clause-there g c = ∥∥₁_map (c.requires.at_work (λ number. []) (λ number. refl))
     (λ x. put_there c.args.self.now x.0 None x.1 0 c.args.job _ _ _ x.2 x.3 c.requires.next)
 
 pub place_of-place-requires : goal.place_of-place-requires
@@ -84,9 +83,8 @@ pub feed-requires-clause-given : goal.feed-requires-clause-given
 feed-requires-clause-given g c = c.requires.next.wants
 
 pub returns-clause-calls : goal.returns-clause-calls
-returns-clause-calls g c =
-    called-only g.P.Provider.calls c.args.providers.now c.args.provider c.index-providers-index.result
-    c.ask.new.from c.requires.there c.ask.ensures.called
+returns-clause-calls g c = called-only g.P.Provider.calls c.args.providers.now c.args.provider
+    c.index-providers-index.result c.ask.new.from c.requires.there c.ask.ensures.called
 
 pub returns-clause-acted : goal.returns-clause-acted
 returns-clause-acted g c = record {

@@ -1,4 +1,4 @@
-use Rattle.vault.proofs.Words.{Result, ℕ, ap, sym, subst, ◌∙◌, ◌∷◌, ◌≡◌, Some, None, GetJob, BeginFault, find_file, file_of_entry, err-is, DeskMakesBegin}
+use Rattle.vault.proofs.Words.{ap, sym, ◌∙◌, ◌∷◌, ◌≡◌, Some, None, GetJob, find_file, file_of_entry, err-is}
 use Rattle.vault_core.specs.declared.wish.BeginFault.TheVariants as fault
 use Rattle.vault.proofs.Begun.{causes_of_name, aims-counted, turned_down}
 use Rattle.vault.proofs.Puts.{name_cause}
@@ -10,23 +10,21 @@ returns-in_err-name-clause-machine c = λ w d moment stands.
     let v = c.args.self.now in
     let kind = GetJob c.args.name.now in
     let why = c.in_err-name.field-0.0 in
-    subst (λ (r : Result ℕ BeginFault). DeskMakesBegin w moment kind None r v d)
-    (sym (err-is c.from_residual.result why c.from_residual.ensures.1))
+    (rw (← (err-is c.from_residual.result why c.from_residual.ensures.1)) at
     (turned_down v v d w moment kind None stands why
     (aims-counted w (name_cause c.args.name.now ∷ causes_of_name w kind c.args.name.now)
-    ∙ c.in_err-name.ensures.refused w (causes_of_name w kind c.args.name.now) stands.core))
+    ∙ c.in_err-name.ensures.refused w (causes_of_name w kind c.args.name.now) stands.core)))
 
 pub returns-in_default-clause-machine : goal.returns-in_default-clause-machine
 returns-in_default-clause-machine c = λ w d moment stands.
     let v = c.args.self.now in
     let name = c.args.name.now in
     let kind = GetJob name in
-    let none : find_file v.core.table.files name ≡ None =
-    sym (c.in_default.ensures ∙ ap (find_file v.core.table.files) c.in_ok-name.ensures.named) in
     turned_down v v d w moment kind None stands fault.NoSuchName
     (aims-counted w (name_cause name ∷ causes_of_name w kind name)
     ∙ (c.in_ok-name.ensures.free w (name_cause name ∷ causes_of_name w kind name) stands.core
-    ∙ no-such-name w name c.in_ok-name.ensures.is_name (sym (found-in v d w name stands) ∙ none)))
+    ∙ no-such-name w name c.in_ok-name.ensures.is_name (sym (found-in v d w name stands) ∙
+    (sym (c.in_default.ensures ∙ ap (find_file v.core.table.files) c.in_ok-name.ensures.named)))))
 
 pub returns-in-Ok-clause-machine : goal.returns-in-Ok-clause-machine
 returns-in-Ok-clause-machine c =

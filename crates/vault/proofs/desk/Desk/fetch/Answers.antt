@@ -61,9 +61,8 @@ pub feed-requires-clause-given : goal.feed-requires-clause-given
 feed-requires-clause-given g c = c.requires.next.wants
 
 pub returns-clause-calls : goal.returns-clause-calls
-returns-clause-calls g c =
-    called-only g.P.Provider.calls c.args.providers.now c.args.provider c.index-providers-index.result
-    c.fetch.new.from c.requires.there c.fetch.ensures.called
+returns-clause-calls g c = called-only g.P.Provider.calls c.args.providers.now c.args.provider
+    c.index-providers-index.result c.fetch.new.from c.requires.there c.fetch.ensures.called
 
 pub returns-clause-acted : goal.returns-clause-acted
 returns-clause-acted g c = record {

@@ -13,26 +13,21 @@ index_mut-requires c =
     omega (arith, place_within c.args.self.now.jobs.items c.args.job _ c.place_of-place.ensures)
 
 pub take-size-requires : goal.take-size-requires
-take-size-requires c =
-    streams_there c.args.self.now c.args.job c.in-Some.stripe c.place_of-place.result c.index_mut.result.now
-    (sym c.in-Some.ensures) c.place_of-place.ensures
+take-size-requires c = streams_there c.args.self.now c.args.job c.in-Some.stripe c.place_of-place.result
+    c.index_mut.result.now (sym c.in-Some.ensures) c.place_of-place.ensures
     (item_at c.args.self.now.jobs.items c.args.job c.place_of-place.result c.index_mut.result.now
-    c.place_of-place.ensures c.index_mut.ensures.value)
-    c.requires.at_work
+    c.place_of-place.ensures c.index_mut.ensures.value) c.requires.at_work
 
 pub length_with-length-requires : goal.length_with-length-requires
 length_with-length-requires c =
-    let size = c.take-size.ensures.size
+    subst (λ x. c.in-Some.stripe * x + length c.args.piece.now ≤ largest_file) (sym (c.take-size.ensures.size
     ∙ size_there c.args.self.now c.args.job c.in-Some.stripe c.place_of-place.result c.index_mut.result.now
     (sym c.in-Some.ensures) c.place_of-place.ensures
     (item_at c.args.self.now.jobs.items c.args.job c.place_of-place.result c.index_mut.result.now
     c.place_of-place.ensures c.index_mut.ensures.value)
-    c.requires.at_work in
-    subst (λ (x : ℕ). c.in-Some.stripe * x + length c.args.piece.now ≤ largest_file) (sym size)
+    c.requires.at_work))
     (piece_bound _ c.in-Some.stripe (length c.args.piece.now) c.args.last
-    (subst (λ (o : Option ℕ). IsPiece (stripe_by c.args.self.now.core.setup
-    (job_in c.args.self.now.core.jobs c.args.job)) o (length c.args.piece.now) c.args.last)
-    (sym c.in-Some.ensures) c.requires.piece))
+    (rw (← c.in-Some.ensures) at c.requires.piece))
 
 pub given-requires-clause-length : goal.given-requires-clause-length
 given-requires-clause-length c = λ j is.
@@ -61,10 +56,7 @@ returns c =
     c.place_of-place.ensures c.index_mut.ensures.value in
     let given : IsGiven c.args.self.now _ c.args.job c.in-Some.stripe c.args.piece.now c.args.last = record {
       wants = sym c.in-Some.ensures;
-      is_piece = subst
-          (λ (o : Option ℕ). IsPiece (stripe_by c.args.self.now.core.setup
-          (job_in c.args.self.now.core.jobs c.args.job)) o (length c.args.piece.now) c.args.last)
-          (sym c.in-Some.ensures) c.requires.piece;
+      is_piece = rw (← c.in-Some.ensures) at c.requires.piece;
       place = c.place_of-place.result;
       old = c.index_mut.result.now;
       new = record { number = c.index_mut.result.now.number; task = c.take-size.new.self };

@@ -1,4 +1,4 @@
-use Rattle.vault.proofs.Words.{ℕ, Some, ap, sym, subst, ◌∙◌, arith, is_some, IsPiece}
+use Rattle.vault.proofs.Words.{ap, ◌∙◌, arith, is_some}
 use Rattle.vault.proofs.JobPlaces.{item_at, place_within}
 use Rattle.vault.proofs.Streams.{place_waits, size_there}
 use Rattle.vault.proofs.desk.Desk.may_give.Goals as goal
@@ -11,23 +11,17 @@ index-requires c =
     omega (arith, place_within c.args.self.now.jobs.items c.args.job _ c.place_of-place.ensures)
 
 pub returns-clause-yes : goal.returns-clause-yes
-returns-clause-yes c = λ yes.
-    subst (λ (x : ℕ). IsPiece x (Some c.args.stripe) c.args.count c.args.last)
-    (c.piece_size-size.ensures
+returns-clause-yes c = λ yes. (rw (c.piece_size-size.ensures
     ∙ size_there c.args.self.now c.args.job c.args.stripe c.place_of-place.result c.index.result.now
     c.requires.wants c.place_of-place.ensures
     (item_at c.args.self.now.jobs.items c.args.job c.place_of-place.result c.index.result.now
     c.place_of-place.ensures c.index.ensures)
-    c.requires.at_work)
-    (c.is_piece.ensures.yes yes)
+    c.requires.at_work) at (c.is_piece.ensures.yes yes))
 
 pub returns-clause-no : goal.returns-clause-no
-returns-clause-no c = λ no piece.
-    c.is_piece.ensures.no no
-    (subst (λ (x : ℕ). IsPiece x (Some c.args.stripe) c.args.count c.args.last)
-    (sym (c.piece_size-size.ensures
+returns-clause-no c = λ no piece. c.is_piece.ensures.no no (rw (← (c.piece_size-size.ensures
     ∙ size_there c.args.self.now c.args.job c.args.stripe c.place_of-place.result c.index.result.now
     c.requires.wants c.place_of-place.ensures
     (item_at c.args.self.now.jobs.items c.args.job c.place_of-place.result c.index.result.now
     c.place_of-place.ensures c.index.ensures)
-    c.requires.at_work)) piece)
+    c.requires.at_work)) at piece)

@@ -1,4 +1,4 @@
-use Rattle.vault.proofs.Words.{◌≤◌, ◌^◌, List, ap, sym, subst, arith, IsSome, entries_size, IsInGrammar, Kept, IsFoldOf}
+use Rattle.vault.proofs.Words.{◌≤◌, ◌^◌, List, ap, sym, subst, arith, entries_size, IsInGrammar, Kept, IsFoldOf}
 use Rattle.std.specs.Prelude.{All}
 use Rattle.journal_core.specs.Lists.{newest_first}
 use Rattle.record_codec.specs.declared.records.Record.{Record}
@@ -6,8 +6,7 @@ use Rattle.vault.proofs.PackBegins.{two-bases, has-setup, spelled, short}
 use Rattle.vault.proofs.desk.Desk.new_pack.Goals as goal
 
 pub pack_records-requires-clause-set_up : goal.pack_records-requires-clause-set_up
-pack_records-requires-clause-set_up c = subst (λ (t : Kept). IsSome t.setup) (sym c.table.ensures)
-    (has-setup c.args.self.now c.requires.at_work)
+pack_records-requires-clause-set_up c = rw (← c.table.ensures) at (has-setup c.args.self.now c.requires.at_work)
 
 pub new-requires-clause-area : goal.new-requires-clause-area
 new-requires-clause-area c = two-bases c.args.self.now c.requires.at_work

@@ -13,9 +13,8 @@ loop-place-preserved c =
       within = omega arith;
       of_desk = c.in_ok-serve-in-Some.ensures.of_desk c.loop-place.invariant.of_desk;
       served = one_served_more files at (file_of_entry c.in-Some.file) new
-          (c.in-Some.ensures ∙ ap (λ (t : Kept). Rattle.std.specs.Prelude.slice_get t.files at) c.table-in-loop-place.ensures)
-          c.in_ok-serve-in-Some.ensures.served
-          (all_served_more (drop (suc at) files) old new
-          (λ p h. c.in_ok-serve-in-Some.ensures.stay p h)
+          (c.in-Some.ensures ∙ ap (λ (t : Kept). Rattle.std.specs.Prelude.slice_get t.files at)
+          c.table-in-loop-place.ensures) c.in_ok-serve-in-Some.ensures.served
+          (all_served_more (drop (suc at) files) old new (λ p h. c.in_ok-serve-in-Some.ensures.stay p h)
           (subst (λ k. AreServed (drop k files) old) next c.loop-place.invariant.served));
     }

@@ -1,4 +1,4 @@
-use Rattle.vault.proofs.Words.{◌<◌, ◌≤◌, ap, sym, ◌∙◌, arith, AllZip-long, IsJobOf, Desk, Kept}
+use Rattle.vault.proofs.Words.{◌<◌, ap, sym, ◌∙◌, arith, AllZip-long, IsJobOf}
 use Rattle.std.proofs.Common.{length}
 use mathlib.Core.Bool.{Bool-set}
 use Rattle.vault.proofs.Alone.{unbarred, busy_pack}
@@ -15,14 +15,13 @@ returns-then-running-gt0-clause-refusal c = λ w d stands.
 
 pub returns-clause-free : goal.returns-clause-free
 returns-clause-free c = λ none.
-    let v : Desk = c.args.self.now in
-    let few : length v.core.jobs ≤ 0 = omega (arith, c.running.ensures.value, c.if-running-gt0.false) in
-    let idle = none-there v.core.jobs few in
+    let v = c.args.self.now in
+    let idle = none-there v.core.jobs (omega (arith, c.running.ensures.value, c.if-running-gt0.false)) in
     let free = by_work (Bool-set _ _) v (λ w faults ps S.
     S.core.barred ∙ unbarred w S.core.none_alone (c.in_default.ensures w S.core)) c.requires in (
       idle,
       free,
       none-flight v c.requires idle free,
       second-version v c.requires
-          (λ one. c.if-version-eq1.false (c.version.ensures ∙ ap (λ (t : Kept). t.version) c.table.ensures ∙ one)),
+          (λ one. c.if-version-eq1.false (c.version.ensures ∙ ap (λ t. t.version) c.table.ensures ∙ one)),
     )

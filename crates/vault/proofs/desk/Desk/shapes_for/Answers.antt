@@ -1,4 +1,4 @@
-use Rattle.vault.proofs.Words.{◌<◌, ◌+◌, ◌++◌, ◌∷◌, [], List, take, get_or, sym, subst, arith, AllZip, take_more, FileShape, IsShapeFor}
+use Rattle.vault.proofs.Words.{◌<◌, ◌+◌, take, get_or, sym, subst, arith, AllZip, take_more, IsShapeFor}
 use Rattle.std.proofs.Common.{length}
 use Rattle.vault_core.specs.declared.pinned.Pinned.{Pinned}
 use Rattle.vault_core.proofs.Kept.{zip_push}
@@ -12,8 +12,7 @@ loop-file-preserved c =
     let none : Pinned = record { id = 0; length = 0; profile = 0 } in
     let files = c.loop-file.files.items in
     let below : i < length pins = omega arith in
-    subst (λ (l : List FileShape). AllZip (IsShapeFor v) (take (i + 1) pins) l) (sym c.in-Ok.ensures.items)
-    (subst (λ (l : List Pinned). AllZip (IsShapeFor v) l (files ++ c.shape_for.result ∷ []))
-    (sym (take_more pins i none below))
-    (zip_push (IsShapeFor v) (take i pins) files (get_or pins i none) c.shape_for.result c.loop-file.invariant
+    subst (λ l. AllZip (IsShapeFor v) (take (i + 1) pins) l) (sym c.in-Ok.ensures.items)
+    (rw (← (take_more pins i none below)) at (zip_push (IsShapeFor v) (take i pins) files (get_or pins i none)
+    c.shape_for.result c.loop-file.invariant
     c.shape_for.ensures))

@@ -14,8 +14,7 @@ returns-clause-stopped c =
       place = c.place_of-place.result;
       running = c.remove-running.result;
       found = at;
-      there =
-          item_at c.args.self.now.jobs.items c.args.job c.place_of-place.result c.remove-running.result at
+      there = item_at c.args.self.now.jobs.items c.args.job c.place_of-place.result c.remove-running.result at
           c.remove-running.ensures.value;
       turn_is = λ i. turn.Done (record { answer = c.args.answer; heard = c.into_heard-heard.ensures i });
       jobs = c.remove-running.ensures.items;

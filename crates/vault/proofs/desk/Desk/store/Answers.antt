@@ -17,10 +17,9 @@ store-requires g c =
     let place = c.place_of-place.result in
     let running = c.index_mut.result.now in
     let at = c.place_of-place.ensures in
-    let there = item_at v.jobs.items c.args.job place running at c.index_mut.ensures.value in
     by_work (storer_prop running.task c.args.provider) v
     (λ w faults ps stands. storer_there v w None faults 0 c.args.job _ _ _ ps stands c.requires.next place
-    running at there)
+    running at (item_at v.jobs.items c.args.job place running at c.index_mut.ensures.value))
     c.requires.at_work
 
 pub stop-requires-clause-there : goal.stop-requires-clause-there
@@ -120,9 +119,8 @@ pub stop-requires-in-Err-Memory-clause-given : goal.stop-requires-in-Err-Memory-
 stop-requires-in-Err-Memory-clause-given g c = c.requires.next.wants
 
 pub returns-in-Ok-clause-calls : goal.returns-in-Ok-clause-calls
-returns-in-Ok-clause-calls g c =
-    called-only g.P.Provider.calls c.args.providers.now c.args.provider c.index-providers-index.result
-    c.store.new.to c.requires.there c.store.ensures.called
+returns-in-Ok-clause-calls g c = called-only g.P.Provider.calls c.args.providers.now c.args.provider
+    c.index-providers-index.result c.store.new.to c.requires.there c.store.ensures.called
 
 pub returns-in-Ok-clause-acted : goal.returns-in-Ok-clause-acted
 returns-in-Ok-clause-acted g c = record {
@@ -133,17 +131,15 @@ returns-in-Ok-clause-acted g c = record {
 }
 
 pub returns-in-Err-Failed-clause-calls : goal.returns-in-Err-Failed-clause-calls
-returns-in-Err-Failed-clause-calls g c =
-    called-only g.P.Provider.calls c.args.providers.now c.args.provider c.index-providers-index.result
-    c.store.new.to c.requires.there c.store.ensures.called
+returns-in-Err-Failed-clause-calls g c = called-only g.P.Provider.calls c.args.providers.now c.args.provider
+    c.index-providers-index.result c.store.new.to c.requires.there c.store.ensures.called
 
 pub returns-in-Err-Failed-clause-acted : goal.returns-in-Err-Failed-clause-acted
 returns-in-Err-Failed-clause-acted g c = stopped-acted _ _ _ _ _ _ c.stop.ensures.stopped tt
 
 pub returns-in-Err-Memory-clause-calls : goal.returns-in-Err-Memory-clause-calls
-returns-in-Err-Memory-clause-calls g c =
-    called-only g.P.Provider.calls c.args.providers.now c.args.provider c.index-providers-index.result
-    c.store.new.to c.requires.there c.store.ensures.called
+returns-in-Err-Memory-clause-calls g c = called-only g.P.Provider.calls c.args.providers.now c.args.provider
+    c.index-providers-index.result c.store.new.to c.requires.there c.store.ensures.called
 
 pub returns-in-Err-Memory-clause-acted : goal.returns-in-Err-Memory-clause-acted
 returns-in-Err-Memory-clause-acted g c = stopped-acted _ _ _ _ _ _ c.stop-in-Err-Memory.ensures.stopped tt

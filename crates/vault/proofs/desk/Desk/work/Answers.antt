@@ -17,10 +17,9 @@ work-requires c =
     let place = c.place_of-place.result in
     let running = c.index_mut.result.now in
     let at = c.place_of-place.ensures in
-    let there = item_at v.jobs.items c.args.job place running at c.index_mut.ensures.value in
     by_work (work_prop running.task) v
     (λ w faults ps stands. work_there v w (devices None faults ps) 0 c.args.job _ _ stands c.requires.next
-    place running at there)
+    place running at (item_at v.jobs.items c.args.job place running at c.index_mut.ensures.value))
     c.requires.at_work
 
 pub stop-requires-clause-there : goal.stop-requires-clause-there
@@ -35,10 +34,9 @@ stop-requires-clause-there c =
 pub returns-in-Ok-clause-machine : goal.returns-in-Ok-clause-machine
 returns-in-Ok-clause-machine c = λ w moment d stands.
     let at = c.place_of-place.ensures in
-    let there = item_at c.args.self.now.jobs.items c.args.job c.place_of-place.result
-    c.index_mut.result.now at c.index_mut.ensures.value in
     work_step c.args.self.now w d moment c.args.job _ _ stands c.requires.next c.place_of-place.result
-    c.index_mut.result.now at there
+    c.index_mut.result.now at (item_at c.args.self.now.jobs.items c.args.job c.place_of-place.result
+    c.index_mut.result.now at c.index_mut.ensures.value)
     (record { number = c.index_mut.result.now.number; task = c.work.new.self }) refl
     _ _ _ c.in-Ok.is c.work.ensures refl
     (record { setup = refl; master = refl; shape = refl; base = refl }) refl (record {
@@ -49,10 +47,9 @@ returns-in-Ok-clause-machine c = λ w moment d stands.
 pub returns-in-Err-clause-machine : goal.returns-in-Err-clause-machine
 returns-in-Err-clause-machine c = λ w moment d stands.
     let at = c.place_of-place.ensures in
-    let there = item_at c.args.self.now.jobs.items c.args.job c.place_of-place.result
-    c.index_mut.result.now at c.index_mut.ensures.value in
     lost_step c.args.self.now w d moment c.args.job _ _ stands c.requires.next c.place_of-place.result
-    c.index_mut.result.now at there
+    c.index_mut.result.now at (item_at c.args.self.now.jobs.items c.args.job c.place_of-place.result
+    c.index_mut.result.now at c.index_mut.ensures.value)
     (record { number = c.index_mut.result.now.number; task = c.work.new.self }) refl
     _ _ _ _ _ _ c.in-Err.is refl c.work.ensures refl refl
     (record { setup = refl; master = refl; shape = refl; base = refl }) refl c.stop.ensures.stopped

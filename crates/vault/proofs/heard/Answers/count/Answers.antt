@@ -5,5 +5,4 @@ use Rattle.vault.proofs.heard.Answers.count.Goals as goal
 pub returns : goal.returns
 returns c =
     let a = c.args.self.now in
-    let entries = length-answered_entries a.job a.asks.items a.symbols.items in
-    omega (arith, entries)
+    omega (arith, length-answered_entries a.job a.asks.items a.symbols.items)

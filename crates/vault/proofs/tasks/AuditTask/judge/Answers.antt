@@ -1,6 +1,5 @@
-use Rattle.vault.proofs.Words.{◌≡◌, ◌≤◌, ◌∙◌, ℕ, List, Option, refl, ap, subst, arith, sums_of, Judges, challenge_put, sums_on}
+use Rattle.vault.proofs.Words.{◌≡◌, ◌∙◌, refl, ap, arith}
 use Rattle.std.proofs.Common.{length}
-use Rattle.file_layout.specs.Files.{shaped_object}
 use Rattle.stripe_bench.proofs.Grown.{last_part, length-last}
 use Rattle.vault.proofs.tasks.AuditTask.judge.Goals as goal
 
@@ -17,12 +16,10 @@ pub judge_round-requires-clause-heard : goal.judge_round-requires-clause-heard
 judge_round-requires-clause-heard c =
     let symbols = c.args.self.now.heard.symbols.items in
     let n = c.args.question.now.file.shape.n in
-    let whole : c.len.result ≡ length symbols = omega arith in
-    let enough : n ≤ length symbols = omega (arith, c.requires.there.heard) in
     ap length
-    (last_part c.deref.result.now symbols c.len.result c.from.result n c.deref.ensures.value whole
+    (last_part c.deref.result.now symbols c.len.result c.from.result n c.deref.ensures.value (omega arith)
     c.from.ensures)
-    ∙ length-last symbols n enough
+    ∙ length-last symbols n (omega (arith, c.requires.there.heard))
 
 pub judge_round-requires-clause-counts : goal.judge_round-requires-clause-counts
 judge_round-requires-clause-counts c = c.requires.there.counts.n_is
@@ -40,13 +37,8 @@ returns-clause-judged c =
     let symbols = c.args.self.now.heard.symbols.items in
     let whole : c.len.result ≡ length symbols = omega arith in
     record {
-      judges =
-          subst
-          (λ (heard : List (Option ℕ)). Judges (shaped_object master q.file) (challenge_put master q) heard
-          (sums_on c.args.self.now) (sums_of c.judge_round.new.counts c.judge_round.new.undecided))
-          (last_part c.deref.result.now symbols c.len.result c.from.result q.file.shape.n
-          c.deref.ensures.value whole c.from.ensures)
-          c.judge_round.ensures.judged;
+      judges = rw (last_part c.deref.result.now symbols c.len.result c.from.result q.file.shape.n
+          c.deref.ensures.value whole c.from.ensures) at c.judge_round.ensures.judged;
       n_is = c.judge_round.ensures.n;
       padded = c.judge_round.ensures.padded;
       heard = refl;

@@ -8,9 +8,8 @@ returns-in_err-unheld-clause-machine c = λ w d moment stands.
     absurd (not_free c.args.self.now.held c.in_err-unheld.ensures.held stands.free)
 
 pub returns-clause-machine : goal.returns-clause-machine
-returns-clause-machine c = λ w d moment stands.
-    begin_made w moment (DropJob c.args.name.now) None _ _ d stands.free
-    (c.begin_drop.ensures.machine w d moment stands.desk)
+returns-clause-machine c = λ w d moment stands. begin_made w moment (DropJob c.args.name.now) None _ _ d
+    stands.free (c.begin_drop.ensures.machine w d moment stands.desk)
 
 pub invariant_of-self : goal.invariant_of-self
 invariant_of-self c =
@@ -22,6 +21,5 @@ invariant_of-self c =
     }
 
 pub returns-clause-streams : goal.returns-clause-streams
-returns-clause-streams c =
-    (begin_keeps c.args.self.now.desk c.begin_drop.new.self c.begin_drop.result
+returns-clause-streams c = (begin_keeps c.args.self.now.desk c.begin_drop.new.self c.begin_drop.result
     c.begin_drop.ensures.unchanged c.begin_drop.ensures.streams).none

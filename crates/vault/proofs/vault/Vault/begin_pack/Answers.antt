@@ -31,8 +31,7 @@ returns-clause-begins c = λ w d stands.
         flight = f.2;
       };
       text = λ few. record {
-        writes = λ area base.
-            subst (λ (x : CoreView). WritesText (other_area area)
+        writes = λ area base. subst (λ (x : CoreView). WritesText (other_area area)
             (Rattle.journal_pack.specs.Tables.packed_table x.table) c.in_ok-pack.pack) (sym drew)
             (writes area base);
         version = ap (λ (x : CoreView). x.table.version) drew ∙ f.3;

@@ -8,9 +8,8 @@ returns-in_err-unheld-clause-machine c = λ w d moment stands.
     absurd (not_free c.args.self.now.held c.in_err-unheld.ensures.held stands.free)
 
 pub returns-clause-machine : goal.returns-clause-machine
-returns-clause-machine c = λ w d moment stands.
-    begin_made w moment (PutJob c.args.name.now c.args.bytes) c.args.profile _ _ d stands.free
-    (c.begin_put.ensures.machine w d moment stands.desk)
+returns-clause-machine c = λ w d moment stands. begin_made w moment (PutJob c.args.name.now c.args.bytes)
+    c.args.profile _ _ d stands.free (c.begin_put.ensures.machine w d moment stands.desk)
 
 pub invariant_of-self : goal.invariant_of-self
 invariant_of-self c =
@@ -22,6 +21,5 @@ invariant_of-self c =
     }
 
 pub returns-clause-streams : goal.returns-clause-streams
-returns-clause-streams c =
-    (begin_keeps c.args.self.now.desk c.begin_put.new.self c.begin_put.result
+returns-clause-streams c = (begin_keeps c.args.self.now.desk c.begin_put.new.self c.begin_put.result
     c.begin_put.ensures.unchanged c.begin_put.ensures.streams).none

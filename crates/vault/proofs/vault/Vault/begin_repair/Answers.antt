@@ -8,8 +8,7 @@ returns-in_err-unheld-clause-machine c = λ w d moment stands.
     absurd (not_free c.args.self.now.held c.in_err-unheld.ensures.held stands.free)
 
 pub returns-clause-machine : goal.returns-clause-machine
-returns-clause-machine c = λ w d moment stands.
-    begin_made w moment RepairJob None _ _ d stands.free
+returns-clause-machine c = λ w d moment stands. begin_made w moment RepairJob None _ _ d stands.free
     (c.begin_repair.ensures.machine w d moment stands.desk)
 
 pub invariant_of-self : goal.invariant_of-self
@@ -22,6 +21,5 @@ invariant_of-self c =
     }
 
 pub returns-clause-streams : goal.returns-clause-streams
-returns-clause-streams c =
-    (begin_keeps c.args.self.now.desk c.begin_repair.new.self c.begin_repair.result
+returns-clause-streams c = (begin_keeps c.args.self.now.desk c.begin_repair.new.self c.begin_repair.result
     c.begin_repair.ensures.unchanged c.begin_repair.ensures.streams).none

@@ -22,9 +22,8 @@ pub invariant_of-self : goal.invariant_of-self
 invariant_of-self c =
     record {
       at_work = stream_works c.args.self.now.desk c.begin_stream.new.self c.args.name.now c.args.profile
-          c.begin_stream.result
-          c.begin_stream.ensures.opens
-          c.begin_stream.ensures.machine c.args.self.now.at_work;
+          c.begin_stream.result c.begin_stream.ensures.opens c.begin_stream.ensures.machine
+          c.args.self.now.at_work;
     }
 
 pub returns-clause-open : goal.returns-clause-open

@@ -1,4 +1,4 @@
-use Rattle.vault.proofs.Words.{◌<◌, ◌≤◌, ◌∙◌, refl, arith, sym, subst, AllZip-long, IsJobOf, Desk, CoreView, HasNoStream}
+use Rattle.vault.proofs.Words.{◌<◌, ◌≤◌, ◌∙◌, refl, arith, sym, subst, AllZip-long, IsJobOf, Desk, HasNoStream}
 use Rattle.std.proofs.Common.{length}
 use Rattle.vault.proofs.Free.{not_free, none_run}
 use Rattle.vault.proofs.Alone.{barred_alone, unbarred, busy_alone, free_alone, drawn_stands, drawn_works}
@@ -54,5 +54,4 @@ returns-clause-holds c = λ w d stands.
     )
 
 pub returns-clause-streams : goal.returns-clause-streams
-returns-clause-streams c = λ none.
-    subst (λ (core : CoreView). HasNoStream core) (sym c.draw-number.ensures.drawn) none
+returns-clause-streams c = λ none. subst (λ core. HasNoStream core) (sym c.draw-number.ensures.drawn) none

@@ -1,4 +1,4 @@
-use Rattle.vault.proofs.Words.{ℕ, Option, sym, ap, subst, is_some, stripe_of, IsPiece}
+use Rattle.vault.proofs.Words.{sym, ap, is_some}
 use Rattle.vault.proofs.vault.Vault.may_give.Goals as goal
 
 pub may_give-requires-clause-at_work : goal.may_give-requires-clause-at_work
@@ -11,12 +11,7 @@ pub returns-in-Some-clause-wants : goal.returns-in-Some-clause-wants
 returns-in-Some-clause-wants c = λ yes. ap is_some (sym c.in-Some.ensures)
 
 pub returns-in-Some-clause-piece : goal.returns-in-Some-clause-piece
-returns-in-Some-clause-piece c = λ yes.
-    subst (λ (o : Option ℕ). IsPiece (stripe_of c.args.self.now c.args.job) o c.args.count c.args.last)
-    c.in-Some.ensures (c.may_give.ensures.yes yes)
+returns-in-Some-clause-piece c = λ yes. (rw c.in-Some.ensures at (c.may_give.ensures.yes yes))
 
 pub returns-in-Some-clause-refused : goal.returns-in-Some-clause-refused
-returns-in-Some-clause-refused c = λ no piece.
-    c.may_give.ensures.no no
-    (subst (λ (o : Option ℕ). IsPiece (stripe_of c.args.self.now c.args.job) o c.args.count c.args.last)
-    (sym c.in-Some.ensures) piece)
+returns-in-Some-clause-refused c = λ no piece. c.may_give.ensures.no no (rw (← c.in-Some.ensures) at piece)

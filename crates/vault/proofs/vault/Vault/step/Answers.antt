@@ -12,12 +12,11 @@ pub invariant_of-self : goal.invariant_of-self
 invariant_of-self g c =
     let seen = sight false g.P.Provider in
     record {
-      at_work = works_on c.args.self.now.desk c.act.new.self
-          (g.D.Disk.faults c.args.disk.now) (g.D.Disk.faults c.act.new.disk) c.args.job
-          (map seen c.args.providers.now) (map seen c.act.new.providers) c.act.result
-          (omega (arith, c.requires.handed, length-map c.args.providers.now seen))
-          c.act.ensures.acted.streams (λ w stands. c.act.ensures.machine w 0 false stands)
-          c.args.self.now.at_work;
+      at_work = works_on c.args.self.now.desk c.act.new.self (g.D.Disk.faults c.args.disk.now)
+          (g.D.Disk.faults c.act.new.disk) c.args.job (map seen c.args.providers.now)
+          (map seen c.act.new.providers) c.act.result
+          (omega (arith, c.requires.handed, length-map c.args.providers.now seen)) c.act.ensures.acted.streams
+          (λ w stands. c.act.ensures.machine w 0 false stands) c.args.self.now.at_work;
     }
 
 pub next-requires : goal.next-requires
@@ -33,13 +32,12 @@ act-requires-clause-next g c = record {
 }
 
 pub act-requires-clause-there : goal.act-requires-clause-there
-act-requires-clause-there g c = λ j called.
-    omega (
-      arith,
-      c.requires.handed,
-      c.in-Act.ensures.within j (ap called_provider (sym c.in-Act.ensures.value) ∙ called),
-      providers_fit c.args.self.now.desk c.args.self.now.at_work,
-    )
+act-requires-clause-there g c = λ j called. omega (
+  arith,
+  c.requires.handed,
+  c.in-Act.ensures.within j (ap called_provider (sym c.in-Act.ensures.value) ∙ called),
+  providers_fit c.args.self.now.desk c.args.self.now.at_work,
+)
 
 pub act-requires-clause-at_work : goal.act-requires-clause-at_work
 act-requires-clause-at_work g c = c.args.self.now.at_work
@@ -48,16 +46,11 @@ pub returns-in-Act : goal.returns-in-Act
 returns-in-Act g c = record {
   machine = λ w moment stands. step_made w moment c.args.job c.act.result _ _ _ stands.free
       (c.act.ensures.machine w moment true stands.desk);
-  calls = subst
-      (λ (x : Coming). CallsNext g.D.Disk g.P.Provider x c.args.disk.now c.args.providers.now c.act.new.disk
-      c.act.new.providers)
-      c.in-Act.ensures.value c.act.ensures.calls;
-  moves = λ w entry stands given calls.
-      subst
-      (λ (x : Coming). MovesCells (moves_before_next x) (closed_gate_of c.args.self.now)
-      (spelling entry ++ 0 ∷ []) c.act.result (g.D.Disk.holds c.args.disk.now)
-      (g.D.Disk.holds c.act.new.disk))
-      c.in-Act.ensures.value
+  calls = subst (λ (x : Coming). CallsNext g.D.Disk g.P.Provider x c.args.disk.now c.args.providers.now
+      c.act.new.disk c.act.new.providers) c.in-Act.ensures.value c.act.ensures.calls;
+  moves = λ w entry stands given calls. subst (λ (x : Coming). MovesCells (moves_before_next x)
+      (closed_gate_of c.args.self.now) (spelling entry ++ 0 ∷ []) c.act.result
+      (g.D.Disk.holds c.args.disk.now) (g.D.Disk.holds c.act.new.disk)) c.in-Act.ensures.value
       (c.act.ensures.moves w entry stands.desk given (ap calls_disk c.in-Act.ensures.value ∙ calls));
   left = c.act.ensures.acted.left;
   no_job = (

@@ -21,16 +21,11 @@ pub returns-in-Ok-true-clause-machine : goal.returns-in-Ok-true-clause-machine
 returns-in-Ok-true-clause-machine g c = λ w ps is_told S.
     let e = c.in-Ok-true.ensures in
     let four = e.moves.count.last.0 c.in-Ok-true.field-0-test in
-    let three : moves_of c.args.job.pack ≡ 3 = (let n = e.moves.count.next in omega (arith, n, four)) in
     goes_fourth c.args.self.now c.args.job w _ _ ps S _ _ _ refl refl _
     (turned_by is_told c.args.job.pack _ c.turn.new.self (g.D.Disk.holds c.args.disk.now)
     (g.D.Disk.holds c.turn.new.disk) (record { turns = e.moves; disk = e.disk }))
-    c.turn.ensures.cause.never_falls three _
-    (record {
-      held = c.requires.held;
-      quiet = c.switch.ensures.quiet;
-      text = λ l. absurd (omega (arith, l, four));
-    })
+    c.turn.ensures.cause.never_falls (let n = e.moves.count.next in omega (arith, n, four)) _
+    (record { held = c.requires.held; quiet = c.switch.ensures.quiet; text = λ l. absurd (omega arith) })
     (c.switch.ensures.stands (plain w) (devices None (g.D.Disk.faults c.args.disk.now) ps)
     (devices None (g.D.Disk.faults c.args.disk.now) ps) S.beside.desk
     (record {

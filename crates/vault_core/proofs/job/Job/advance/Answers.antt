@@ -4,9 +4,7 @@ use Rattle.vault_core.proofs.job.Job.advance.Goals as goal
 
 pub returns-clause-kept : goal.returns-clause-kept
 returns-clause-kept c =
-    steady_at c.args.providers c.args.self.now c.after-self.result (c.args.self.now.place + 1)
-    (c.args.self.now.left - 1) _ c.requires.kept c.after-self.ensures
+    steady_at (c.args.self.now.place + 1) (c.args.self.now.left - 1) c.requires.kept c.after-self.ensures
 
 pub returns-clause-rest : goal.returns-clause-rest
-returns-clause-rest c = rest_moved c.args.providers c.args.self.now c.after-self.result
-    (c.args.self.now.place + 1) (c.args.self.now.left - 1) _ c.after-self.ensures
+returns-clause-rest c = rest_moved (c.args.self.now.place + 1) (c.args.self.now.left - 1) c.after-self.ensures

@@ -11,9 +11,12 @@ unfolding rest_of
 returns-in-Some-clause-rest c = ap (removals_of c.args.providers) (sym c.in-Some.is)
 
 pub returns-in-Some-clause-left : goal.returns-in-Some-clause-left
-returns-in-Some-clause-left c = let l = c.requires.left in
-    let r = removals_length c.args.providers c.in-Some.object in
-    let e = ap (λ o. length (removals_of c.args.providers o)) c.in-Some.is in omega (arith, l, r, e)
+returns-in-Some-clause-left c = omega (
+  arith,
+  c.requires.left,
+  removals_length c.args.providers c.in-Some.object,
+  ap (λ o. length (removals_of c.args.providers o)) c.in-Some.is,
+)
 
 pub returns-in-None-clause-kept : goal.returns-in-None-clause-kept
 returns-in-None-clause-kept c = ended c.args.providers c.args.self.now (c.args.self.now.place + 1) 1

@@ -8,7 +8,5 @@ after-requires-clause-going c = not_over c.args.providers c.args.self.now
     (c.in-Ask.ensures.value c.args.providers c.requires.kept) (λ e. cc)
 
 pub returns-in-Ask : goal.returns-in-Ask
-returns-in-Ask c = c.is_start.ensures
-    ∙ asks_last c.args.providers c.args.self.now c.after.result c.in-Ask.provider c.in-Ask.object
-    c.in-Ask.round
+returns-in-Ask c = c.is_start.ensures ∙ asks_last c.in-Ask.provider c.in-Ask.object c.in-Ask.round
     (c.in-Ask.ensures.value c.args.providers c.requires.kept) c.after.ensures

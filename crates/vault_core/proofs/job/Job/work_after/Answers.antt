@@ -3,7 +3,5 @@ use Rattle.vault_core.proofs.job.Job.work_after.Goals as goal
 
 pub returns-in_default : goal.returns-in_default
 returns-in_default c =
-    worked c.args.providers c.args.self.now c.args.spot c.turn_after.result c.in_default.not-Repair
-    c.requires.wish
-    (c.turn_after.ensures c.args.providers c.requires.some c.requires.stays
-    (worker_calls c.args.self.now.wish c.requires.wish))
+    worked c.args.spot c.in_default.not-Repair c.requires.wish (c.turn_after.ensures c.args.providers
+    c.requires.some c.requires.stays (worker_calls c.args.self.now.wish c.requires.wish))

@@ -1,4 +1,4 @@
-use Rattle.vault_core.proofs.Words.{rules, ◌<◌, ◌∙◌, ap, sym, subst, length, slice_get_within, remove, ended, CoreIs, CoreView, job_in, view_of}
+use Rattle.vault_core.proofs.Words.{rules, ◌∙◌, ap, slice_get_within, remove, CoreView, job_in, view_of}
 use Rattle.vault_core.proofs.Gating.{place_len}
 use Rattle.vault_core.proofs.Kept.{less_view, less_core}
 use Rattle.vault_core.proofs.Waiting.{ended-stands, ended-gone, ended-others}
@@ -6,18 +6,15 @@ use Rattle.vault_core.proofs.own.Core.abandon.Goals as goal
 
 pub remove-requires : goal.remove-requires
 remove-requires c = let l = place_len c.self.inside c.waiting-place.result.0
-    (subst (λ (x : CoreView). c.waiting-place.result.0 < length x.jobs) (sym c.self.view_is)
-    (slice_get_within c.args.self.now.jobs c.waiting-place.result.0 c.waiting-place.ensures.job
-    c.waiting-place.ensures.here)) in
+    (rw (← c.self.view_is) at (slice_get_within c.args.self.now.jobs c.waiting-place.result.0
+    c.waiting-place.ensures.job c.waiting-place.ensures.here)) in
     search rules
 
 pub invariant_of-self : goal.invariant_of-self
-invariant_of-self c = less_core c.self.inside c.remove.new.self c.waiting-place.result.0 c.remove.result
-    c.self.inside.append c.self.inside.barred
-    (subst (λ (x : CoreView). c.waiting-place.result.0 < length x.jobs) (sym c.self.view_is)
+invariant_of-self c = less_core c.remove.new.self c.waiting-place.result.0 c.remove.result
+    c.self.inside.append c.self.inside.barred (rw (← c.self.view_is) at
     (slice_get_within c.args.self.now.jobs c.waiting-place.result.0 c.waiting-place.ensures.job
-    c.waiting-place.ensures.here))
-    c.remove.ensures.items c.self.invariant
+    c.waiting-place.ensures.here)) c.remove.ensures.items c.self.invariant
 
 pub returns : goal.returns
 returns c =
@@ -25,15 +22,11 @@ returns c =
     c.self.inside.barred c.remove.ensures.items
     ∙ ap (λ (x : CoreView). record x { jobs = remove x.jobs c.waiting-place.result.0 }) c.self.view_is in
     record {
-      stands = λ w j is runs. subst (λ (x : CoreView). CoreIs x (ended w j)) (sym e)
-          (ended-stands c.args.self.now c.args.job c.waiting-place.result.0 c.waiting-place.result.1
-          c.waiting-place.ensures w is j runs);
-      ended = ap (λ (x : CoreView). job_in x.jobs c.args.job) e
-          ∙ ended-gone c.args.self.now c.args.job c.waiting-place.result.0 c.waiting-place.result.1
-          c.waiting-place.ensures c.self.inside c.self.view_is c.self.invariant;
-      others = λ other o. ap (λ (x : CoreView). job_in x.jobs other) e
-          ∙ ended-others c.args.self.now c.args.job c.waiting-place.result.0 c.waiting-place.result.1
-          c.waiting-place.ensures other o;
+      stands = λ w j is runs. (rw (← e) at (ended-stands c.waiting-place.ensures w is j runs));
+      ended = ap (λ (x : CoreView). job_in x.jobs c.args.job) e ∙ ended-gone c.waiting-place.ensures
+          c.self.inside c.self.view_is c.self.invariant;
+      others = λ other o. ap (λ (x : CoreView). job_in x.jobs other) e ∙ ended-others c.waiting-place.ensures
+          other o;
       kept = ap (λ (x : CoreView). record x {
         jobs = (view_of (record c.self.inside { jobs = c.remove.new.self })).jobs;
       }) c.self.view_is;

@@ -1,56 +1,39 @@
-use Rattle.vault_core.proofs.Words.{ap, refl, with_item, setup_kept, core_job, stepped_job}
+use Rattle.vault_core.proofs.Words.{rules, ap, refl, with_item, core_job, stepped_job}
 use Rattle.vault_core.proofs.Goes.{left_some}
 use Rattle.vault_core.proofs.Moving.{plain_here, went_on, set_view_same}
 use Rattle.vault_core.proofs.Advancing.{advances, on_core, on_same}
 use Rattle.vault_core.proofs.own.Core.advance.Goals as goal
 
-pub advance-requires-clause-kept : goal.advance-requires-clause-kept
-advance-requires-clause-kept c =
-    (plain_here c.self.inside c.args.self.now c.args.place c.index_mut-job.result.now c.self.view_is
-    c.self.invariant c.index_mut-job.ensures.value c.requires.plain).kept.steady
-
-pub advance-requires-clause-going : goal.advance-requires-clause-going
-advance-requires-clause-going c =
-    (plain_here c.self.inside c.args.self.now c.args.place c.index_mut-job.result.now c.self.view_is
-    c.self.invariant c.index_mut-job.ensures.value c.requires.plain).going
-
-pub advance-requires-clause-left : goal.advance-requires-clause-left
-advance-requires-clause-left c = left_some (setup_kept c.self.inside) c.index_mut-job.result.now
-    (plain_here c.self.inside c.args.self.now c.args.place c.index_mut-job.result.now c.self.view_is
-    c.self.invariant c.index_mut-job.ensures.value c.requires.plain).kept
-
-pub advance-requires-clause-fits : goal.advance-requires-clause-fits
-advance-requires-clause-fits c =
-    (plain_here c.self.inside c.args.self.now c.args.place c.index_mut-job.result.now c.self.view_is
-    c.self.invariant c.index_mut-job.ensures.value c.requires.plain).kept.fits
+pub advance-requires : goal.advance-requires
+advance-requires c =
+    let here = plain_here c.args.place c.self.view_is c.self.invariant c.index_mut-job.ensures.value
+    c.requires.plain in
+    record {
+      kept = here.kept.steady;
+      going = here.going;
+      left = left_some here.kept;
+      fits = here.kept.fits;
+      few = search rules;
+      some = search rules;
+    }
 
 pub invariant_of-self : goal.invariant_of-self
 invariant_of-self c =
-    let here = plain_here c.self.inside c.args.self.now c.args.place c.index_mut-job.result.now c.self.view_is
-    c.self.invariant c.index_mut-job.ensures.value c.requires.plain in
-    let is = advances (setup_kept c.self.inside) c.index_mut-job.result.now c.index_mut-job.result.now
-    c.advance.new.self _
-    here.kept refl refl refl refl refl refl c.advance.ensures.same in
-    on_core c.self.inside c.args.self.now c.args.place c.index_mut-job.result.now c.advance.new.self
-    c.self.view_is c.self.invariant here.here is c.self.inside.append
-    (went_on (setup_kept c.self.inside) c.index_mut-job.result.now c.advance.new.self here.action here.kept
-    here.head here.gateless c.advance.ensures.kept c.advance.ensures.rest c.advance.ensures.same)
-    c.requires.given
+    let here = plain_here c.args.place c.self.view_is c.self.invariant c.index_mut-job.ensures.value
+    c.requires.plain in
+    on_core c.args.place c.self.view_is c.self.invariant here.here (advances here.kept refl
+    c.advance.ensures.same) c.self.inside.append (went_on here.kept here.head here.gateless
+    c.advance.ensures.kept c.advance.ensures.rest c.advance.ensures.same) c.requires.given
 
 pub returns : goal.returns
 returns c =
-    let here = plain_here c.self.inside c.args.self.now c.args.place c.index_mut-job.result.now c.self.view_is
-    c.self.invariant c.index_mut-job.ensures.value c.requires.plain in
-    let is = advances (setup_kept c.self.inside) c.index_mut-job.result.now c.index_mut-job.result.now
-    c.advance.new.self _
-    here.kept refl refl refl refl refl refl c.advance.ensures.same in
-    let went = went_on (setup_kept c.self.inside) c.index_mut-job.result.now c.advance.new.self here.action
-    here.kept here.head here.gateless c.advance.ensures.kept c.advance.ensures.rest c.advance.ensures.same in
+    let here = plain_here c.args.place c.self.view_is c.self.invariant c.index_mut-job.ensures.value
+    c.requires.plain in
     record {
-      moved = set_view_same c.self.inside c.args.self.now
-          (with_item c.self.inside.jobs c.args.place c.advance.new.self) c.args.place c.advance.new.self
-          c.index_mut-job.result.now stepped_job c.self.view_is refl here.here
+      moved = set_view_same c.self.inside (with_item c.self.inside.jobs c.args.place c.advance.new.self)
+          c.args.place c.advance.new.self c.index_mut-job.result.now stepped_job c.self.view_is refl here.here
           (ap core_job c.advance.ensures.same);
-      falls = on_same c.self.inside c.args.self.now c.args.place c.index_mut-job.result.now c.advance.new.self
-          c.self.view_is c.self.invariant here.here is c.self.inside.append here.kept went.kept;
+      falls = on_same c.args.place c.self.view_is c.self.invariant here.here (advances here.kept refl
+          c.advance.ensures.same) c.self.inside.append here.kept (went_on here.kept here.head here.gateless
+          c.advance.ensures.kept c.advance.ensures.rest c.advance.ensures.same).kept;
     }

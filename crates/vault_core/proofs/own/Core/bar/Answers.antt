@@ -1,4 +1,3 @@
-use Rattle.vault_core.proofs.Words.{sym, subst, true, barred, CoreView, CoreIs}
 use Rattle.vault_core.proofs.Idle.{bar_core, core-bar}
 use Rattle.vault_core.proofs.own.Core.bar.Goals as goal
 
@@ -6,6 +5,5 @@ pub invariant_of-self : goal.invariant_of-self
 invariant_of-self c = bar_core c.self.inside c.self.invariant
 
 pub returns-clause-stands : goal.returns-clause-stands
-returns-clause-stands c = λ w is free sound. subst
-    (λ (v : CoreView). CoreIs (record v { barred = true }) (barred w)) (sym c.self.view_is)
-    (core-bar c.args.self.now w is free sound)
+returns-clause-stands c = λ w is free sound. (rw (← c.self.view_is) at
+    (core-bar c.args.self.now w is free sound))

@@ -1,13 +1,10 @@
-use Rattle.vault_core.proofs.Words.{IsShortKindOf, IsPutUnder}
-use Rattle.std.specs.Prelude.{Some, ◌^◌}
-use Rattle.vault_core.specs.declared.wish.Wish.TheVariants as wish
+use Rattle.vault_core.proofs.Words.{IsPutUnder}
 use Rattle.vault_core.proofs.Admitted.{begins_among, put_under, stream-open, stream-others}
 use Rattle.vault_core.proofs.own.Core.begin_stream.Goals as goal
 
 pub returns-clause-begins : goal.returns-clause-begins
-returns-clause-begins c = begins_among c.args.self.now c.start_job.new.self
-    (IsShortKindOf (Some 0) (wish.Put c.args.name (2 ^ 22) c.args.profile)) (IsPutUnder c.args.name)
-    c.args.profile c.start_job.result (put_under c.args.name c.args.profile) c.start_job.ensures.begins
+returns-clause-begins c = begins_among (IsPutUnder c.args.name) (put_under c.args.name c.args.profile)
+    c.start_job.ensures.begins
 
 pub returns-clause-open : goal.returns-clause-open
 returns-clause-open c = stream-open c.start_job.result c.args.self.now c.start_job.new.self

@@ -1,5 +1,4 @@
-use Rattle.vault_core.proofs.Words.{rules, ◌≡◌, ◌<◌, ◌≤◌, ◌∙◌, ap, sym, subst, refl, Some, length, slice_get, with_item, CoreView, CoreJob, closed, most_of, setup_kept, core_job}
-use Rattle.vault_core.specs.declared.job.Job.{Job}
+use Rattle.vault_core.proofs.Words.{rules, ◌≡◌, ◌≤◌, ◌∙◌, ap, sym, subst, refl, Some, slice_get, with_item, closed, most_of, setup_kept, core_job}
 use Rattle.vault_core.proofs.Admitted.{primary}
 use Rattle.vault_core.proofs.Kept.{other_core}
 use Rattle.vault_core.proofs.Told.{told_none}
@@ -10,7 +9,7 @@ use Rattle.vault_core.proofs.own.Core.close.Goals as goal
 
 pub index_mut-job-requires : goal.index_mut-job-requires
 index_mut-job-requires c = let l = place_len c.self.inside c.args.place
-    (subst (λ (x : CoreView). c.args.place < length x.jobs) (sym c.self.view_is) c.requires.within) in
+    (rw (← c.self.view_is) at c.requires.within) in
     search rules
 
 pub stripes-stripes-requires : goal.stripes-stripes-requires
@@ -20,34 +19,30 @@ stripes-stripes-requires c =
 pub invariant_of-self : goal.invariant_of-self
 invariant_of-self c =
     let old = c.index_mut-job.result.now in
-    let here = job_here c.self.inside c.args.self.now c.args.place old c.self.view_is c.self.invariant
+    let here = job_here c.args.place c.self.view_is c.self.invariant
     c.requires.within c.index_mut-job.ensures.value in
-    let ends = closed_here c.self.inside c.args.self.now c.args.place old c.close.new.self c.args.given
-    c.args.size c.stripes-stripes.result c.self.view_is c.self.invariant here c.requires.ends
+    let ends = closed_here c.args.given c.args.size c.self.view_is c.self.invariant here c.requires.ends
     (c.stripes-stripes.ensures c.self.inside.master.0) c.close.ensures.tasks c.close.ensures.same in
-    other_core c.self.inside (with_item c.self.inside.jobs c.args.place c.close.new.self) c.args.place
-    c.close.new.self (core_job old) (core_job c.close.new.self) c.self.inside.append refl refl here.here
-    (ap (λ (j : Job). j.number) c.close.ensures.same) ends.upgrade ends.went.kept
-    (told_none (setup_kept c.self.inside) (core_job c.close.new.self)
-    (ap (λ (j : Job). j.told) c.close.ensures.same)) ends.went.room ends.went.starts c.self.invariant
+    other_core (with_item c.self.inside.jobs c.args.place c.close.new.self) c.args.place c.self.inside.append
+    refl refl here.here (ap (λ j. j.number) c.close.ensures.same) ends.upgrade ends.went.kept (told_none
+    (setup_kept c.self.inside) (core_job c.close.new.self) (ap (λ j. j.told) c.close.ensures.same))
+    ends.went.room ends.went.starts c.self.invariant
 
 pub returns : goal.returns
 returns c =
     let old = c.index_mut-job.result.now in
-    let here = job_here c.self.inside c.args.self.now c.args.place old c.self.view_is c.self.invariant
+    let here = job_here c.args.place c.self.view_is c.self.invariant
     c.requires.within c.index_mut-job.ensures.value in
-    let ends = closed_here c.self.inside c.args.self.now c.args.place old c.close.new.self c.args.given
-    c.args.size c.stripes-stripes.result c.self.view_is c.self.invariant here c.requires.ends
+    let ends = closed_here c.args.given c.args.size c.self.view_is c.self.invariant here c.requires.ends
     (c.stripes-stripes.ensures c.self.inside.master.0) c.close.ensures.tasks c.close.ensures.same in
     record {
-      moved = set_view_same c.self.inside c.args.self.now
-          (with_item c.self.inside.jobs c.args.place c.close.new.self) c.args.place c.close.new.self old
-          (closed c.args.size) c.self.view_is refl here.here ends.seen;
+      moved = set_view_same c.self.inside (with_item c.self.inside.jobs c.args.place c.close.new.self)
+          c.args.place c.close.new.self old (closed c.args.size) c.self.view_is refl here.here ends.seen;
       left = λ j at.
           let f : Some (core_job old) ≡ Some j = sym here.here
-          ∙ (ap (λ (x : CoreView). slice_get x.jobs c.args.place) c.self.view_is ∙ at) in
+          ∙ (ap (λ x. slice_get x.jobs c.args.place) c.self.view_is ∙ at) in
           let is : core_job old ≡ j = cc in
-          subst (λ (x : CoreView). most_of x.setup (closed c.args.size j) ≤ most_of x.setup j) c.self.view_is
-          (subst (λ (y : CoreJob). most_of (setup_kept c.self.inside) (closed c.args.size y)
+          subst (λ x. most_of x.setup (closed c.args.size j) ≤ most_of x.setup j) c.self.view_is
+          (subst (λ y. most_of (setup_kept c.self.inside) (closed c.args.size y)
           ≤ most_of (setup_kept c.self.inside) y) is ends.left);
     }

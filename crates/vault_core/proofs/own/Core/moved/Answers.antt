@@ -1,4 +1,4 @@
-use Rattle.vault_core.proofs.Words.{rules, sym, subst, switched, CoreView, CoreIs}
+use Rattle.vault_core.proofs.Words.{rules}
 use Rattle.vault_core.proofs.Idle.{core-moved}
 use Rattle.vault_core.proofs.own.Core.moved.Goals as goal
 
@@ -6,6 +6,5 @@ pub returns-clause-moved : goal.returns-clause-moved
 returns-clause-moved c = search rules
 
 pub returns-clause-stands : goal.returns-clause-stands
-returns-clause-stands c = λ w is second free ends sound. subst
-    (λ (v : CoreView). CoreIs v (switched w)) (sym (returns-clause-moved c))
-    (core-moved c.args.self.now w c.args.end is second free ends sound)
+returns-clause-stands c = λ w is second free ends sound. (rw (← (returns-clause-moved c)) at
+    (core-moved c.args.self.now w c.args.end is second free ends sound))

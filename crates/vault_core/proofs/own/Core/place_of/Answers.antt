@@ -1,11 +1,10 @@
-use Rattle.vault_core.proofs.Words.{◌∙◌, ap, ◌==◌, position, CoreJob, CoreView, core_job}
-use Rattle.vault_core.specs.declared.job.Job.{Job}
+use Rattle.vault_core.proofs.Words.{◌∙◌, ap, ◌==◌, position, core_job}
 use Rattle.vault_core.proofs.Places.{position-map}
 use Rattle.vault_core.proofs.own.Core.place_of.Goals as goal
 
 pub returns : goal.returns
 returns c = c.place_in.ensures
-    ∙ (ap (position (λ (j : Job). j.number == c.args.job)) c.deref.ensures.value
+    ∙ (ap (position (λ j. j.number == c.args.job)) c.deref.ensures.value
     ∙ (position-map core_job
-    (λ (j : CoreJob). j.number == c.args.job) c.self.inside.jobs.items
-    ∙ ap (λ (x : CoreView). position (λ (j : CoreJob). j.number == c.args.job) x.jobs) c.self.view_is))
+    (λ j. j.number == c.args.job) c.self.inside.jobs.items
+    ∙ ap (λ x. position (λ j. j.number == c.args.job) x.jobs) c.self.view_is))

@@ -7,15 +7,13 @@ pub unreachable-requires : goal.unreachable-requires
 unreachable-requires c = waits_somewhere c.args.self.now c.args.job c.requires c.in_default.ensures
 
 pub index-requires : goal.index-requires
-index-requires c = let l = place_len c.self.inside c.in-Some.place
-    (waits_within c.self.inside c.args.self.now c.args.job c.in-Some.place c.self.view_is c.requires
-    c.in-Some.ensures) in search rules
+index-requires c = let l = place_len c.self.inside c.in-Some.place (waits_within c.self.inside
+    c.args.job c.self.view_is c.requires c.in-Some.ensures) in search rules
 
 pub unreachable-requires-in_default-told : goal.unreachable-requires-in_default-told
-unreachable-requires-in_default-told c = waits_told c.self.inside c.args.self.now c.args.job c.in-Some.place
-    c.index.result.now c.self.view_is c.requires c.in-Some.ensures c.index.ensures (sym c.in_default-told.is)
+unreachable-requires-in_default-told c = waits_told c.self.inside c.args.job c.self.view_is c.requires
+    c.in-Some.ensures c.index.ensures (sym c.in_default-told.is)
 
 pub returns : goal.returns
-returns c = stream_at c.self.inside c.args.self.now c.args.job c.in-Some.place c.in-Some-told.stripes
-    c.index.result.now c.self.view_is c.self.invariant c.requires c.in-Some.ensures c.index.ensures
+returns c = stream_at c.args.job c.self.view_is c.self.invariant c.requires c.in-Some.ensures c.index.ensures
     (sym c.in-Some-told.is)

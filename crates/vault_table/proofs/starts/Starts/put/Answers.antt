@@ -27,10 +27,9 @@ invariant_of-self c =
       letters = ap length new_letters
           ∙ (more_letters ∙ (omega (arith, is.letters, begins-all sizes (length name), short.1)
           ∙ ap (λ (l : List ℕ). begins_at l (length l)) (sym new_sizes)));
-      names = subst (λ (l : List ℕ). list_all is_kept_name (kept_names l c.extend_from_slice.new.self.items)
-          ≡ true) (sym new_sizes)
-          (subst (λ (l : List ℕ). list_all is_kept_name (kept_names (sizes ++ length name ∷ []) l) ≡ true)
-          (sym new_letters)
+      names = subst (λ (l : List ℕ). list_all is_kept_name (kept_names l c.extend_from_slice.new.self.items) ≡
+          true) (sym new_sizes) (subst (λ (l : List ℕ). list_all is_kept_name
+          (kept_names (sizes ++ length name ∷ []) l) ≡ true) (sym new_letters)
           (subst (λ (l : List (Option (List ℕ))). list_all is_kept_name l ≡ true)
           (sym (names-push sizes letters name (length name) is.letters refl short.0))
           (kept-push (kept_names sizes letters) name is.names c.as_bytes-bytes.ensures.is_name)));
