@@ -181,7 +181,7 @@ scrubs-but _ _ own _ h (ByScrubs.swept qs named behind front rs us s stripes sym
 -- ---- what a get gave
 
 -- the bytes that were stored, or the report holds a forgery
-pub got-back : (commands : List Instruction) (outcomes : List Outcome) (start : State) (ms : List Moment)
+abbrev pub got-back : (commands : List Instruction) (outcomes : List Outcome) (start : State) (ms : List Moment)
     (new : Seen) (end : Ending) (W : WasTold commands outcomes start ms new end) (name bytes : List ℕ) (g : ℕ)
     (how : Answer) → GotBack (called_behind start ms) W.later name bytes g how →
     IsGotBack start (called_behind start ms) new end name bytes g how
